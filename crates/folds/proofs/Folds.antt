@@ -1,0 +1,149 @@
+-- Laws of the folds.
+-- Assumes nothing.
+use mathlib.Core.Path.{_≡_, refl, ap, _∙_, sym, subst}
+use mathlib.Core.Bool.{Bool, true, false, cond, _&&_, and-false}
+use mathlib.Core.Logic.{⊎-elim}
+use mathlib.Core.List.{List, [], _∷_}
+use Prim.Native.Nat.{ℕ, zero, suc, _+_, _<_, _≤_}
+use native.Mathlib.Nat.{not-suc-le-zero, le-of-suc-le-suc, eq-or-lt-of-le, le-antisymm, le-refl, add-zero, zero-add, add-suc, suc-add}
+use native.Mathlib.Numerals.{add-one}
+use native.Mathlib.Omega.{arith}
+use lib.Dec.{ltb}
+use lib.ListN.{length, getD, set}
+use borrow.Author.Tests.{lt-ltb, le-ltb, ltb-true}
+use Rattle.folds.specs.Folds.{all, first, every, everyFrom, Line, lowest, firsts}
+
+pub and-left : (a b : Bool) → a && b ≡ true → a ≡ true
+and-left true b e = refl
+and-left false b e = e
+
+pub and-right : (a b : Bool) → a && b ≡ true → b ≡ true
+and-right true b e = e
+and-right false b e = cc
+
+-- ---- a test of every number below a bound
+
+-- none are below 0
+pub all-none : (p : ℕ → Bool) → all 0 p ≡ true
+unfolding all
+all-none p = refl
+
+-- one test more
+pub all-step : (p : ℕ → Bool) (i : ℕ) → all (i + 1) p ≡ all i p && p i
+unfolding all
+all-step p i = rw add-one
+
+-- one more holds
+pub all-more : (p : ℕ → Bool) (i : ℕ) → all i p ≡ true → p i ≡ true → all (i + 1) p ≡ true
+all-more p i h e = all-step p i ∙ rw (h, e)
+
+-- one fails, so not all hold
+pub all-fails : (p : ℕ → Bool) (n i : ℕ) → i < n → p i ≡ false → all n p ≡ false
+unfolding all
+all-fails p zero i h e = absurd (not-suc-le-zero h)
+all-fails p (suc n) i h e =
+    ⊎-elim (λ q. rw (← q, e) (and-false (all i p))) (λ l. rw (all-fails p n i l e)) (eq-or-lt-of-le (le-of-suc-le-suc h))
+
+-- a loop that counts to n has passed them all
+pub all-count : (p : ℕ → Bool) (n i : ℕ) → i ≤ n → n ≤ i → all i p ≡ all n p
+all-count p n i a b = rw (le-antisymm a b)
+
+pub all-end : (p : ℕ → Bool) (n i : ℕ) → i ≤ n → n ≤ i → all i p ≡ true → all n p ≡ true
+all-end p n i a b h = rw (le-antisymm b a) h
+
+-- a test of all holds at each
+pub all-at : (p : ℕ → Bool) (n i : ℕ) → i < n → all n p ≡ true → p i ≡ true
+unfolding all
+all-at p zero i h e = absurd (not-suc-le-zero h)
+all-at p (suc n) i h e =
+    ⊎-elim (λ q. rw q (and-right (all n p) (p n) e)) (λ l. all-at p n i l (and-left (all n p) (p n) e)) (eq-or-lt-of-le (le-of-suc-le-suc h))
+
+-- a test that holds at each number holds of all
+pub all-of : (p : ℕ → Bool) (n : ℕ) → ((i : ℕ) → i < n → p i ≡ true) → all n p ≡ true
+unfolding all
+all-of p zero h = refl
+all-of p (suc n) h = rw (all-of p n (λ i l. h i (omega arith)), h n (omega arith))
+
+-- tests that agree at each number agree
+pub all-cong : (p q : ℕ → Bool) (n : ℕ) → ((i : ℕ) → i < n → p i ≡ q i) → all n p ≡ all n q
+unfolding all
+all-cong p q zero h = refl
+all-cong p q (suc n) h = rw (all-cong p q n (λ i l. h i (omega arith)), h n (omega arith))
+
+-- ---- the first number of which a test holds
+
+-- none below k, and none at k
+pub first-none : (p : ℕ → Bool) (k : ℕ) → first k p ≡ k → p k ≡ false → first (k + 1) p ≡ k + 1
+unfolding first
+first-none p k h e = rw (add-one, h, le-ltb k k (le-refl k), e)
+
+first-after : (p : ℕ → Bool) (k n : ℕ) → k < n → first n p ≡ k → first (suc n) p ≡ k
+unfolding first
+first-after p k n h e = rw (e, lt-ltb k n h)
+
+first-here : (p : ℕ → Bool) (k : ℕ) → first k p ≡ k → p k ≡ true → first (suc k) p ≡ k
+unfolding first
+first-here p k h e = rw (h, le-ltb k k (le-refl k), e)
+
+-- none below k, and one at k: it is the first of any more
+pub first-found : (p : ℕ → Bool) (k n : ℕ) → k < n → first k p ≡ k → p k ≡ true → first n p ≡ k
+first-found p k zero h f e = absurd (not-suc-le-zero h)
+first-found p k (suc n) h f e =
+    ⊎-elim (λ q. rw (← q) (first-here p k f e)) (λ l. first-after p k n l (first-found p k n l f e)) (eq-or-lt-of-le (le-of-suc-le-suc h))
+
+pub first-end : (p : ℕ → Bool) (k n : ℕ) → k ≤ n → n ≤ k → first k p ≡ k → k ≡ first n p
+first-end p k n a b h = rw (le-antisymm b a) (sym h)
+
+-- ---- every test of a list
+
+from-first : (a : Bool) (ts : List Bool) → everyFrom a ts ≡ true → a ≡ true
+from-first a [] e = e
+from-first a (t ∷ ts) e = and-left a t (from-first (a && t) ts e)
+
+from-at : (a : Bool) (ts : List Bool) → everyFrom a ts ≡ true → (i : ℕ) → getD ts i true ≡ true
+from-at a [] e i = refl
+from-at a (t ∷ ts) e zero = and-right a t (from-first (a && t) ts e)
+from-at a (t ∷ ts) e (suc i) = from-at (a && t) ts e i
+
+-- each test of a list that holds
+pub every-at : (ts : List Bool) → every ts ≡ true → (i : ℕ) → getD ts i true ≡ true
+unfolding every
+every-at [] e i = refl
+every-at (t ∷ ts) e zero = from-first t ts e
+every-at (t ∷ ts) e (suc i) = from-at t ts e i
+
+-- ---- the lowest line that holds
+
+-- the numbers of a table are not 0
+abbrev pub numbered : List Line → Bool
+numbered [] = true
+numbered (r ∷ rs) = ltb 0 (r .1) && numbered rs
+
+passed : (t : Bool) (n r : ℕ) → ltb 0 n ≡ true → cond t n r ≡ 0 → (t ≡ false) × (r ≡ 0)
+passed true n r h e = absurd (omega (arith, ltb-true 0 n h))
+passed false n r h e = (refl, e)
+
+-- where no number is given, no line holds
+pub none-at : (rs : List Line) → numbered rs ≡ true → lowest rs ≡ 0 → (i : ℕ) → getD rs i (false, 0) .0 ≡ false
+unfolding lowest
+none-at [] h e i = refl
+none-at (r ∷ rs) h e zero = passed (r .0) (r .1) (lowest rs) (and-left (ltb 0 (r .1)) (numbered rs) h) e .0
+none-at (r ∷ rs) h e (suc i) =
+    none-at rs (and-right (ltb 0 (r .1)) (numbered rs) h) (passed (r .0) (r .1) (lowest rs) (and-left (ltb 0 (r .1)) (numbered rs) h) e .1) i
+
+-- ---- the first places of a list
+
+firsts-suc : {A : Type 0} (f : ℕ → A → A) (l : List A) (n i : ℕ) (d : A) → n < length l
+    → set (firsts n i f l) n (f (i + n) (getD l n d)) ≡ firsts (suc n) i f l
+unfolding firsts
+firsts-suc {A} f [] n i d h = absurd (not-suc-le-zero h)
+firsts-suc {A} f (x ∷ l) zero i d h = rw add-zero
+firsts-suc {A} f (x ∷ l) (suc n) i d h =
+    rw (add-suc, ← suc-add) (ap (λ (t : List A). f i x ∷ t) (firsts-suc f l n (suc i) d (le-of-suc-le-suc h)))
+
+-- one place more is changed
+pub firsts-more : {A : Type 0} (f : ℕ → A → A) (l : List A) (n : ℕ) (d : A) → n < length l
+    → set (firsts n 0 f l) n (f n (getD l n d)) ≡ firsts (n + 1) 0 f l
+firsts-more f l n d h =
+    rw add-one
+    (subst (λ (k : ℕ). set (firsts n 0 f l) n (f k (getD l n d)) ≡ firsts (suc n) 0 f l) (zero-add n) (firsts-suc f l n 0 d h))

@@ -1,0 +1,274 @@
+// The bytes of a step: read, written, and what both rest on, the table of body lengths.
+ghost use mathlib.Core.Path.{_≡_};
+ghost use Prim.Native.Nat.{_+_, _≤_, _<_};
+ghost use Rattle.fields.specs.Row.{decode, encode};
+ghost use lib.Seq.{sets};
+ghost use lib.ListN.{drop, length};
+ghost use Rattle.steps.specs.Step.{lengthOf, row, stepOf, readAt, barrierKind, objectKind, kindOf, barrierValues, objectValues, valuesOf, writeAt, written};
+ghost use Rattle.steps.specs.Places.{placesAt, opFrom};
+
+pub mod lengths;
+mod widths;
+
+// What a warp does at a named barrier.
+pub enum BarrierStep {
+    SyncAll,
+    Sync(u16),
+    Arrive(u16),
+    RedAll {
+        selector: u8,
+        mask: u32,
+    },
+    Red {
+        selector: u8,
+        threads: u16,
+        mask: u32,
+    },
+}
+
+// What a warp does with an mbarrier object.
+pub enum ObjectStep {
+    Init(u32),
+    Inval,
+    Arrive(u32),
+    ArriveNoComplete(u32),
+    ArriveExpect(u32),
+    Drop(u32),
+    DropNoComplete(u32),
+    DropExpect(u32),
+    Expect(u32),
+    Complete(u32),
+    TestToken(u64),
+    TestParity(u8),
+}
+
+// The nineteen kinds: a barrier step with its barrier, an object step with its address, a pending count with its token.
+pub enum Op {
+    Exit,
+    Barrier(u8, BarrierStep),
+    Object(u16, ObjectStep),
+    PendingCount(u64),
+}
+
+// One decoded instruction of one warp.
+pub struct Step {
+    pub warp: u8,
+    pub op: Op,
+}
+
+// The place in a trace at which the next step is read.
+pub struct Cursor {
+    pub at: usize,
+}
+
+// A step with the cursor after it, or the refusal.
+pub enum Read {
+    Found(Step, Cursor),
+    Refused(u8),
+}
+
+// The place after a step that was written, or the refusal.
+pub enum Wrote {
+    Next(usize),
+    Refused(u8),
+}
+
+// Each place after the warp at which some kind has a field, read at that field's width: two3 is the number of two bytes at place 3.
+struct Places {
+    one1: u8,
+    two1: u16,
+    eight1: u64,
+    one2: u8,
+    two2: u16,
+    one3: u8,
+    two3: u16,
+    four3: u32,
+    eight3: u64,
+    four5: u32,
+}
+
+// What stands at the places of a body that starts at at.
+fn places_at(s: &[u8], at: usize) -> Places
+    requires { ⌜ at + 5 < 18446744073709551616 ⌝ }
+    ensures { λ r. ⌜ r ≡ placesAt (now (s .entry)) at ⌝ }
+{
+    let a = at + 1;
+    let b = at + 2;
+    let c = at + 3;
+    let d = at + 5;
+    Places {
+        one1: fields::one(s, a),
+        two1: fields::two(s, a),
+        eight1: fields::eight(s, a),
+        one2: fields::one(s, b),
+        two2: fields::two(s, b),
+        one3: fields::one(s, c),
+        two3: fields::two(s, c),
+        four3: fields::four(s, c),
+        eight3: fields::eight(s, c),
+        four5: fields::four(s, d),
+    }
+}
+
+// What a known kind makes of them.
+fn op_of(kind: u8, p: Places) -> Op
+    requires { ⌜ kind < 20 ⌝ }
+    ensures { λ r. ⌜ r ≡ opFrom kind p ⌝ }
+{
+    match kind {
+        2 => Op::Barrier(p.one1, BarrierStep::SyncAll),
+        3 => Op::Barrier(p.one1, BarrierStep::Sync(p.two2)),
+        4 => Op::Barrier(p.one1, BarrierStep::Arrive(p.two2)),
+        5 => Op::Barrier(
+            p.one1,
+            BarrierStep::RedAll {
+                selector: p.one2,
+                mask: p.four3,
+            },
+        ),
+        6 => Op::Barrier(
+            p.one1,
+            BarrierStep::Red {
+                selector: p.one2,
+                threads: p.two3,
+                mask: p.four5,
+            },
+        ),
+        7 => Op::Object(p.two1, ObjectStep::Init(p.four3)),
+        8 => Op::Object(p.two1, ObjectStep::Inval),
+        9 => Op::Object(p.two1, ObjectStep::Arrive(p.four3)),
+        10 => Op::Object(p.two1, ObjectStep::ArriveNoComplete(p.four3)),
+        11 => Op::Object(p.two1, ObjectStep::ArriveExpect(p.four3)),
+        12 => Op::Object(p.two1, ObjectStep::Drop(p.four3)),
+        13 => Op::Object(p.two1, ObjectStep::DropExpect(p.four3)),
+        14 => Op::Object(p.two1, ObjectStep::Expect(p.four3)),
+        15 => Op::Object(p.two1, ObjectStep::Complete(p.four3)),
+        16 => Op::Object(p.two1, ObjectStep::TestToken(p.eight3)),
+        17 => Op::Object(p.two1, ObjectStep::TestParity(p.one3)),
+        18 => Op::PendingCount(p.eight1),
+        19 => Op::Object(p.two1, ObjectStep::DropNoComplete(p.four3)),
+        _ => Op::Exit,
+    }
+}
+
+// The step of a known kind whose body starts at at.
+fn step_at(kind: u8, s: &[u8], at: usize) -> Step
+    requires { ⌜ (0 < lengthOf kind) × (at + 5 < 18446744073709551616) ⌝ }
+    ensures { λ r. ⌜ r ≡ stepOf kind (decode (row kind) (drop at (now (s .entry)))) ⌝ }
+{
+    Step {
+        warp: fields::one(s, at),
+        op: op_of(kind, places_at(s, at)),
+    }
+}
+
+impl Cursor {
+    // The step at the cursor with the cursor after it, or the refusal: 1 an unknown kind, 2 too few bytes.
+    pub fn read(self, s: &[u8]) -> Read
+        ensures { λ r. ⌜ r ≡ readAt (now (s .entry)) (self .at) ⌝ }
+    {
+        let at = self.at;
+        if s.len() <= at {
+            return Read::Refused(2);
+        }
+        let kind = s[at];
+        let n = lengths::length_of(kind);
+        if n == 0 {
+            return Read::Refused(1);
+        }
+        let body = at + 1;
+        if s.len() - body < n {
+            return Read::Refused(2);
+        }
+        Read::Found(step_at(kind, s, body), Cursor { at: body + n })
+    }
+}
+
+// A step's kind, and its row of numbers: the warp, and up to four fields more.
+struct Parts(u8, [u64; 5]);
+
+// The parts of a named-barrier step.
+fn barrier_parts(w: u64, x: u64, b: BarrierStep) -> Parts
+    ensures { λ r. ⌜ (r .0 ≡ barrierKind b) × (r .1 ≡ barrierValues w x b) ⌝ }
+{
+    match b {
+        BarrierStep::SyncAll => Parts(2, [w, x, 0, 0, 0]),
+        BarrierStep::Sync(t) => Parts(3, [w, x, t as u64, 0, 0]),
+        BarrierStep::Arrive(t) => Parts(4, [w, x, t as u64, 0, 0]),
+        BarrierStep::RedAll { selector, mask } => Parts(5, [w, x, selector as u64, mask as u64, 0]),
+        BarrierStep::Red {
+            selector,
+            threads,
+            mask,
+        } => { Parts(6, [w, x, selector as u64, threads as u64, mask as u64]) }
+    }
+}
+
+// The parts of an object step.
+fn object_parts(w: u64, x: u64, o: ObjectStep) -> Parts
+    ensures { λ r. ⌜ (r .0 ≡ objectKind o) × (r .1 ≡ objectValues w x o) ⌝ }
+{
+    match o {
+        ObjectStep::Init(n) => Parts(7, [w, x, n as u64, 0, 0]),
+        ObjectStep::Inval => Parts(8, [w, x, 0, 0, 0]),
+        ObjectStep::Arrive(n) => Parts(9, [w, x, n as u64, 0, 0]),
+        ObjectStep::ArriveNoComplete(n) => Parts(10, [w, x, n as u64, 0, 0]),
+        ObjectStep::ArriveExpect(n) => Parts(11, [w, x, n as u64, 0, 0]),
+        ObjectStep::Drop(n) => Parts(12, [w, x, n as u64, 0, 0]),
+        ObjectStep::DropExpect(n) => Parts(13, [w, x, n as u64, 0, 0]),
+        ObjectStep::Expect(n) => Parts(14, [w, x, n as u64, 0, 0]),
+        ObjectStep::Complete(n) => Parts(15, [w, x, n as u64, 0, 0]),
+        ObjectStep::TestToken(n) => Parts(16, [w, x, n, 0, 0]),
+        ObjectStep::TestParity(n) => Parts(17, [w, x, n as u64, 0, 0]),
+        ObjectStep::DropNoComplete(n) => Parts(19, [w, x, n as u64, 0, 0]),
+    }
+}
+
+// The parts of a step.
+fn parts_of(step: Step) -> Parts
+    ensures { λ r. ⌜ (r .0 ≡ kindOf step) × (r .1 ≡ valuesOf step) ⌝ }
+{
+    let w = step.warp as u64;
+    let op = step.op;
+    match op {
+        Op::Exit => Parts(1, [w, 0, 0, 0, 0]),
+        Op::Barrier(x, b) => barrier_parts(w, x as u64, b),
+        Op::Object(x, o) => object_parts(w, x as u64, o),
+        Op::PendingCount(n) => Parts(18, [w, n, 0, 0, 0]),
+    }
+}
+
+// A known kind's row of numbers, each at its width, one after the other from at on.
+fn put_row(out: &mut [u8], at: usize, kind: u8, v: [u64; 5])
+    requires { ⌜ (kind < 20) × (at + lengthOf kind ≤ length (now out)) ⌝ }
+    ensures { λ _. ⌜ now (out .exit) ≡ sets (now (out .entry)) at (encode (row kind) v) ⌝ }
+{
+    let mut p = at;
+    let mut i = 0;
+    while i < 5 {
+        let w = widths::width_of(kind, i);
+        fields::put(&mut *out, p, w, v[i]);
+        p = p + w;
+        i = i + 1;
+    }
+}
+
+// The bytes of a step, laid in at a place; where they do not fit, 2, and nothing changes.
+pub fn write(step: Step, out: &mut [u8], at: usize) -> Wrote
+    ensures { λ r. ⌜ (r ≡ writeAt step (now (out .entry)) at) × (now (out .exit) ≡ written step (now (out .entry)) at) ⌝ }
+{
+    let p = parts_of(step);
+    let kind = p.0;
+    let v = p.1;
+    let n = lengths::length_of(kind);
+    if out.len() <= at {
+        return Wrote::Refused(2);
+    }
+    let body = at + 1;
+    if out.len() - body < n {
+        return Wrote::Refused(2);
+    }
+    out[at] = kind;
+    put_row(&mut *out, body, kind, v);
+    Wrote::Next(body + n)
+}
