@@ -1,14 +1,14 @@
 -- Laws of rows of numbers: one for each way of the round trip, and one for each turn of a loop over a row.
 -- Assumes nothing.
-use mathlib.Core.Path.{_≡_, refl, sym, ap, _∙_}
+use mathlib.Core.Path.{_≡_, refl, _∙_}
 use mathlib.Core.List.{List, [], _∷_, _++_, append-assoc}
-use Prim.Native.Nat.{ℕ, zero, suc, _+_, _≤_, _<_}
+use Prim.Native.Nat.{ℕ, suc, _+_, _≤_, _<_}
 use native.Mathlib.Omega.{arith}
 use native.Mathlib.Nat.{add-zero, suc-add, add-suc}
 use native.Mathlib.Numerals.{add-one}
 use lib.ListN.{length, take, drop, getD, set, length-append, length-drop}
 use lib.Seq.{sets, drop-append-le, drop-at, take-add, drop-cons, getD-drop, drop-drop}
-use Rattle.fields.specs.Num.{room, num, bytes, Bytes}
+use Rattle.fields.specs.Num.{bytes, Bytes}
 use Rattle.fields.specs.Row.{total, decode, encode, Fit}
 use Rattle.fields.proofs.Num.{bytes-drop, num-lt, length-bytes, num-bytes, bytes-num, num-more}
 

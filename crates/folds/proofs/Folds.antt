@@ -45,9 +45,6 @@ all-fails p (suc n) i h e =
     ⊎-elim (λ q. rw (← q, e) (and-false (all i p))) (λ l. rw (all-fails p n i l e)) (eq-or-lt-of-le (le-of-suc-le-suc h))
 
 -- a loop that counts to n has passed them all
-pub all-count : (p : ℕ → Bool) (n i : ℕ) → i ≤ n → n ≤ i → all i p ≡ all n p
-all-count p n i a b = rw (le-antisymm a b)
-
 pub all-end : (p : ℕ → Bool) (n i : ℕ) → i ≤ n → n ≤ i → all i p ≡ true → all n p ≡ true
 all-end p n i a b h = rw (le-antisymm b a) h
 

@@ -1,3 +1,4 @@
 pub mod Folds
 pub mod Table
 pub mod Cases
+pub mod Lowest

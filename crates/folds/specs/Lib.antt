@@ -1,2 +1,3 @@
 pub mod Folds
 pub mod Table
+pub mod Lowest

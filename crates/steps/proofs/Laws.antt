@@ -1,12 +1,12 @@
 -- The round trip, both ways, and what holds of a step that was read.
 -- Assumes nothing.
-use mathlib.Core.Path.{_≡_, refl, sym, ap, _∙_, subst}
-use mathlib.Core.List.{List, [], _∷_, _++_, append-assoc}
+use mathlib.Core.Path.{_≡_, sym, ap, _∙_, subst}
+use mathlib.Core.List.{List, _∷_, _++_, append-assoc}
 use Prim.Native.Nat.{ℕ, suc, _+_, _-_, _≤_, _<_}
 use native.Mathlib.Omega.{arith}
 use native.Mathlib.Numerals.{add-one}
 use lib.ListN.{length, getD, take, drop, take-append-drop, length-append, length-drop, List·getD-append}
-use lib.Seq.{sets, sets-eq, length-sets, length-take-le, getD-at, drop-at, drop-append-le, drop-drop, drop-cons}
+use lib.Seq.{sets-eq, length-sets, length-take-le, getD-at, drop-at, drop-append-le, drop-drop, drop-cons}
 use Rattle.fields.specs.Num.{Bytes}
 use Rattle.fields.proofs.Num.{bytes-drop}
 use Rattle.fields.specs.Row.{decode, encode, Fit}
@@ -15,9 +15,9 @@ use Rattle.steps.specs.declared.Step.{Step}
 use Rattle.steps.specs.declared.Cursor.{Cursor}
 use Rattle.steps.specs.declared.Read.the-variants.{Found}
 use Rattle.steps.specs.Step.{kindAt, readAt, lengthOf, stepOf, row, kindOf, valuesOf, bytesOf, written}
-use Rattle.steps.specs.Laws.{Fits, WrittenRead, WasRead, ReadWritten}
+use Rattle.steps.specs.Laws.{WrittenRead, WasRead, ReadWritten}
 use Rattle.steps.proofs.Each.{known, kept}
-use Rattle.steps.proofs.Reading.{stepAt, next, read-found, IsFound, is-found}
+use Rattle.steps.proofs.Reading.{stepAt, next, read-found, is-found}
 use Rattle.steps.proofs.Writing.{own, size, has-room}
 
 -- a known kind with its whole body, standing in some bytes

@@ -7,7 +7,7 @@ use native.Mathlib.Omega.{arith}
 use native.Mathlib.Nat.{sub-self}
 use lib.ListN.{drop, getD}
 use denote.Ref.{now}
-use Rattle.fields.specs.Num.{num, room}
+use Rattle.fields.specs.Num.{num}
 use Rattle.fields.proofs.Num.{num-lt, num-step, num-small, bytes-drop}
 use Rattle.fields.proofs.number_in.Statement.{statement}
 use Rattle.fields.proofs.number_in.Tie as tie

@@ -1,13 +1,11 @@
 -- `steps::put_row` meets its contract. The invariant: what is left of the row, stored, gives what all of it gives.
 -- Assumes nothing.
-use Prim.Native.Nat.{ℕ, _+_, _-_, _≤_, _<_}
+use Prim.Native.Nat.{_+_, _-_, _≤_, _<_}
 use mathlib.Core.Path.{_≡_, refl, sym, ap, _∙_}
-use mathlib.Core.List.{List, []}
+use mathlib.Core.List.{[]}
 use native.Mathlib.Omega.{arith}
-use borrow.Author.Needs.{needs}
 use lib.ListN.{length, drop, getD, drop-of-length-le}
 use lib.Seq.{sets, length-sets}
-use denote.Ref.{now}
 use Rattle.fields.specs.Num.{bytes}
 use Rattle.fields.proofs.Num.{length-bytes, laid-fits}
 use Rattle.fields.specs.Row.{total, encode}

@@ -1,7 +1,7 @@
 -- `steps::write` meets its contract: at each return the tests that led there say whether there is room.
 -- Assumes nothing.
 use mathlib.Core.Path.{_≡_, sym, ap, _∙_}
-use Prim.Native.Nat.{ℕ, suc, _+_}
+use Prim.Native.Nat.{suc, _+_}
 use native.Mathlib.Omega.{arith}
 use native.Mathlib.Numerals.{add-one}
 use lib.ListN.{length, set, length-set}

@@ -1,7 +1,7 @@
 -- `steps::Cursor::read` meets its contract: at each return the tests that led there say which case of reading holds.
 -- Assumes nothing.
-use mathlib.Core.Path.{_≡_, sym, ap, _∙_}
-use Prim.Native.Nat.{ℕ, _+_, _<_}
+use mathlib.Core.Path.{sym, _∙_}
+use Prim.Native.Nat.{_+_, _<_}
 use native.Mathlib.Omega.{arith}
 use denote.Ref.{now}
 use Rattle.steps.specs.declared.Read.the-variants.{Found}

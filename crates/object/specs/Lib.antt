@@ -1,0 +1,4 @@
+pub mod Tokens
+pub mod Row
+pub mod Soundness
+pub mod Steps
