@@ -1,0 +1,50 @@
+use mathlib.Core.Path.{_∙_, sym}
+use borrow.Author.Needs.{needs}
+use Rattle.block.proofs.Steps.{exit-refused, exit-completes, exit-alone}
+use Rattle.block.proofs.exit.Statement.{statement}
+use Rattle.block.proofs.exit.Tie as tie
+
+warp-refusal-requires : tie.Need-warp-refusal-requires
+warp-refusal-requires c κs = search needs
+
+returns : tie.Need-returns
+returns c = exit-refused _ _ _ (c .before .warp-refusal .ensures) (c .if1 .taken)
+
+without-requires : tie.Need-without-requires
+without-requires c κs = search needs
+
+opened-requires : tie.Need-opened-requires
+opened-requires c κs = search needs
+
+barrier-row-requires : tie.Need-barrier-row-requires
+barrier-row-requires c κs = search needs
+
+complete-requires : tie.Need-complete-requires
+complete-requires c κs = search needs
+
+returns-2 : tie.Need-returns-2
+returns-2 c =
+    let o = c .before .before .before in
+    let e = o .before .before in
+    c .complete .ensures
+    ∙ exit-completes _ _ _ (o .before .without .ensures) (sym (e .before .warp-refusal .ensures) ∙ e .if1 .left) _ _ (o .opened .ensures)
+    (c .before .barrier-row .ensures) (c .before .before .if2 .taken)
+
+returns-3 : tie.Need-returns-3
+returns-3 c =
+    let o = c .before in
+    let e = o .before .before in
+    exit-alone _ _ _ (o .before .without .ensures) (sym (e .before .warp-refusal .ensures) ∙ e .if1 .left) (rw (o .opened .ensures) at (c .if2 .left))
+
+pub exit-spec : {M : Type 1} → statement M
+exit-spec =
+    tie.close
+    (tie.spec
+    warp-refusal-requires
+    returns
+    without-requires
+    opened-requires
+    barrier-row-requires
+    complete-requires
+    returns-2
+    returns-3)

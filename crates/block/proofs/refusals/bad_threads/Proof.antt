@@ -1,0 +1,28 @@
+use borrow.Author.Needs.{needs}
+use Rattle.block.proofs.refusals.bad_threads.Statement.{statement}
+use Rattle.block.proofs.refusals.bad_threads.Tie as tie
+
+enum-told : tie.Need-enum-told
+enum-told c = search needs
+
+enum-known-t : tie.Need-enum-known-t
+enum-known-t c = search needs
+
+cast-n : tie.Need-cast-n
+cast-n c = search needs
+
+cast-result : tie.Need-cast-result
+cast-result c = search needs
+
+mul-result : tie.Need-mul-result
+mul-result c = search needs
+
+returns : tie.Need-returns
+returns c = search needs
+
+returns-2 : tie.Need-returns-2
+returns-2 c = rw (c .before .before .t .given .1)
+
+pub bad-threads-spec : {M : Type 1} → statement M
+bad-threads-spec =
+    tie.close (tie.spec enum-told enum-known-t cast-n cast-result mul-result returns returns-2)

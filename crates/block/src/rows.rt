@@ -1,0 +1,208 @@
+// One row: where it stands, what it says, what an arrival makes of it, and the result of one that completes.
+use crate::BARRIER_COUNT;
+use crate::Barrier;
+use crate::Block;
+use crate::Call;
+use crate::Form;
+use crate::LANE_COUNT;
+use crate::LARGEST;
+use crate::MOST_WARPS;
+use crate::Status;
+use crate::Threads;
+use crate::Warp;
+ghost use mathlib.Core.Path.{_≡_};
+ghost use mathlib.Core.Bool.{cond};
+ghost use Prim.Native.Nat.{_+_};
+ghost use Rattle.sets.specs.Sets.{put};
+ghost use Rattle.block.specs.Tables.{freshWarp, idle, warpAt, barrierAt, formNumber, isReady, isExited, waitsAt, waitsPlaced};
+ghost use Rattle.block.specs.Steps.{formOf, lanesOf, countOf, upToLargest, arrivedRow, resultOf};
+
+// A ready warp's row, with result 0.
+pub fn fresh_warp() -> Warp
+    ensures { λ r. ⌜ r ≡ freshWarp ⌝ }
+{
+    Warp {
+        status: Status::Ready,
+        result: 0,
+    }
+}
+
+// An idle barrier's row.
+pub fn idle_row() -> Barrier
+    ensures { λ r. ⌜ r ≡ idle ⌝ }
+{
+    Barrier {
+        form: Form::Idle,
+        threads: 0,
+        arrived: 0,
+        waiting: 0,
+        trues: 0,
+    }
+}
+
+// The row of warp w, a fresh one where there is none.
+pub fn warp_row(b: Block, w: u8) -> Warp
+    ensures { λ r. ⌜ r ≡ warpAt b w ⌝ }
+{
+    if w < MOST_WARPS {
+        b.rows[w as usize]
+    } else {
+        fresh_warp()
+    }
+}
+
+// The row of barrier k, an idle one where there is none.
+pub fn barrier_row(b: Block, k: u8) -> Barrier
+    ensures { λ r. ⌜ r ≡ barrierAt b k ⌝ }
+{
+    if k < BARRIER_COUNT {
+        b.barriers[k as usize]
+    } else {
+        idle_row()
+    }
+}
+
+// The number of a form.
+pub fn form_number(f: Form) -> u8
+    ensures { λ r. ⌜ r ≡ formNumber f ⌝ }
+{
+    match f {
+        Form::Idle => 0,
+        Form::Plain => 1,
+        Form::Popc => 2,
+        Form::And => 3,
+        Form::Or => 4,
+    }
+}
+
+// Whether the warp is ready.
+pub fn is_ready(row: Warp) -> bool
+    ensures { λ r. ⌜ r ≡ isReady (row .status) ⌝ }
+{
+    let s = row.status;
+    match s {
+        Status::Ready => true,
+        Status::Waiting(_) => false,
+        Status::Exited => false,
+    }
+}
+
+// Whether the warp has exited.
+pub fn is_exited(row: Warp) -> bool
+    ensures { λ r. ⌜ r ≡ isExited (row .status) ⌝ }
+{
+    let s = row.status;
+    match s {
+        Status::Ready => false,
+        Status::Waiting(_) => false,
+        Status::Exited => true,
+    }
+}
+
+// Whether the warp waits at barrier k.
+pub fn waits_at(row: Warp, k: u8) -> bool
+    ensures { λ r. ⌜ r ≡ waitsAt (row .status) k ⌝ }
+{
+    let s = row.status;
+    match s {
+        Status::Ready => false,
+        Status::Waiting(at) => at == k,
+        Status::Exited => false,
+    }
+}
+
+// Whether the warp, if it waits, waits at a barrier that there is.
+pub fn waits_placed(row: Warp) -> bool
+    ensures { λ r. ⌜ r ≡ waitsPlaced (row .status) ⌝ }
+{
+    let s = row.status;
+    match s {
+        Status::Ready => true,
+        Status::Waiting(at) => at < BARRIER_COUNT,
+        Status::Exited => true,
+    }
+}
+
+// The form that a selector names, Idle where it names none.
+pub fn form_of(selector: u8) -> Form
+    ensures { λ r. ⌜ r ≡ formOf selector ⌝ }
+{
+    if (selector == 0) | (selector == 4) {
+        return Form::Popc;
+    }
+    if (selector == 1) | (selector == 5) {
+        return Form::And;
+    }
+    if (selector == 2) | (selector == 6) {
+        return Form::Or;
+    }
+    Form::Idle
+}
+
+// The true lanes of a mask, which the selectors from 4 complement.
+pub fn lanes_of(selector: u8, mask: u32) -> u32
+    ensures { λ r. ⌜ r ≡ lanesOf selector mask ⌝ }
+{
+    if 3 < selector {
+        sets::size(!mask)
+    } else {
+        sets::size(mask)
+    }
+}
+
+// A row's thread count, 0 for all.
+pub fn count_of(t: Threads) -> u16
+    ensures { λ r. ⌜ r ≡ countOf t ⌝ }
+{
+    match t {
+        Threads::All => 0,
+        Threads::Given(n) => n,
+    }
+}
+
+// The set, with warp w in it if it waits.
+fn put_if(set: u32, w: u8, waits: bool) -> u32
+    ensures { λ r. ⌜ r ≡ cond waits (put set w) set ⌝ }
+{
+    if waits { sets::put(set, w) } else { set }
+}
+
+// The sum, which stays at the largest number.
+fn sum_up_to_largest(a: u32, b: u32) -> u32
+    ensures { λ r. ⌜ r ≡ upToLargest (a + b) ⌝ }
+{
+    if b <= LARGEST - a { a + b } else { LARGEST }
+}
+
+// The barrier's row with warp w arrived.
+pub fn arrived_row(r: Barrier, w: u8, c: Call) -> Barrier
+    ensures { λ t. ⌜ t ≡ arrivedRow r w c ⌝ }
+{
+    let form = c.form;
+    let asked = c.threads;
+    let threads = count_of(asked);
+    let arrived = sets::put(r.arrived, w);
+    let waiting = put_if(r.waiting, w, c.waits);
+    let trues = sum_up_to_largest(r.trues, c.lanes);
+    Barrier {
+        form,
+        threads,
+        arrived,
+        waiting,
+        trues,
+    }
+}
+
+// The result of a row that completes: the true lanes, or 1 or 0 for all true or any true; 0 of a plain one.
+pub fn result_of(r: Barrier) -> u32
+    ensures { λ v. ⌜ v ≡ resultOf r ⌝ }
+{
+    let f = r.form;
+    match f {
+        Form::Idle => 0,
+        Form::Plain => 0,
+        Form::Popc => r.trues,
+        Form::And => (r.trues == LANE_COUNT * sets::size(r.arrived)) as u32,
+        Form::Or => (0 < r.trues) as u32,
+    }
+}

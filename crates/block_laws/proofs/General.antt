@@ -1,0 +1,126 @@
+-- Laws of tests, of the first number of which a test holds, and of the changed first places of a list.
+-- Assumes nothing.
+use mathlib.Core.Path.{_≡_, refl, sym, ap, _∙_}
+use mathlib.Core.Bool.{Bool, true, false, not, cond, _&&_, _||_, Bool·beq}
+use mathlib.Core.Logic.{⊎-elim}
+use mathlib.Core.List.{List, [], _∷_}
+use Prim.Native.Nat.{ℕ, zero, suc, _+_, _<_, _≤_}
+use native.Mathlib.Nat.{not-suc-le-zero, le-of-suc-le-suc, eq-or-lt-of-le, add-zero, add-suc, suc-add}
+use native.Mathlib.Omega.{arith}
+use lib.Dec.{ltb}
+use lib.ListN.{length, getD}
+use borrow.Author.Tests.{ltb-true, ltb-false}
+use Rattle.folds.specs.Folds.{first, firsts}
+
+-- ---- tests
+
+-- a test holds or fails
+pub by-test : {P : Type 0} (t : Bool) → (t ≡ true → P) → (t ≡ false → P) → P
+by-test true p q = p refl
+by-test false p q = q refl
+
+-- of an implication that holds, the conclusion
+pub then : (a b : Bool) → a || b ≡ true → a ≡ false → b ≡ true
+then true b e h = cc
+then false b e h = e
+
+-- an implication holds where its conclusion follows
+pub implied : (a b : Bool) → (a ≡ false → b ≡ true) → a || b ≡ true
+implied true b h = refl
+implied false b h = h refl
+
+-- two tests hold together, and then each does
+pub both : (a b : Bool) → a ≡ true → b ≡ true → a && b ≡ true
+both true b p q = q
+both false b p q = p
+
+pub each : (a b : Bool) → a && b ≡ true → (a ≡ true) × (b ≡ true)
+each true b e = (refl, e)
+each false b e = (e, cc)
+
+-- of two tests neither holds
+pub neither : (a b : Bool) → a || b ≡ false → (a ≡ false) × (b ≡ false)
+neither true b e = (e, cc)
+neither false b e = (refl, e)
+
+-- a test that cannot hold fails
+pub untrue : (t : Bool) → (t ≡ true → ⊥) → t ≡ false
+untrue true h = absurd (h refl)
+untrue false h = refl
+
+-- what fails is denied, and what holds is not
+pub not-of : (t : Bool) → t ≡ false → not t ≡ true
+not-of true e = sym e
+not-of false e = refl
+
+pub not-is : (t : Bool) → t ≡ true → not t ≡ false
+not-is true e = refl
+not-is false e = sym e
+
+-- what two tests that are alike say
+pub alike : (a b : Bool) → Bool·beq a b ≡ true → a ≡ b
+alike true true e = refl
+alike true false e = sym e
+alike false true e = e
+alike false false e = refl
+
+-- and back
+pub alike-of : (a b : Bool) → a ≡ b → Bool·beq a b ≡ true
+alike-of true true e = refl
+alike-of true false e = sym e
+alike-of false true e = e
+alike-of false false e = refl
+
+-- ---- the first number of which a test holds
+
+-- it holds of the number that is found
+pub first-holds : (p : ℕ → Bool) (n : ℕ) → first n p < n → p (first n p) ≡ true
+unfolding first
+first-holds p zero h = absurd (not-suc-le-zero h)
+first-holds p (suc n) h = go (first-holds p n) (ltb (first n p) n) (p n) refl refl h
+  where
+    go : (first n p < n → p (first n p) ≡ true) → (a b : Bool) → ltb (first n p) n ≡ a → p n ≡ b
+        → cond a (first n p) (cond b n (suc n)) < suc n → p (cond a (first n p) (cond b n (suc n))) ≡ true
+    go ih true b e f l = ih (ltb-true (first n p) n e)
+    go ih false true e f l = f
+    go ih false false e f l = absurd (omega arith)
+
+-- where none is found it holds of none
+pub first-passes : (p : ℕ → Bool) (n i : ℕ) → i < n → n ≤ first n p → p i ≡ false
+unfolding first
+first-passes p zero i h l = absurd (not-suc-le-zero h)
+first-passes p (suc n) i h l = go (first-passes p n i) (ltb (first n p) n) (p n) refl refl l
+  where
+    go : (i < n → n ≤ first n p → p i ≡ false) → (a b : Bool) → ltb (first n p) n ≡ a → p n ≡ b → suc n ≤ cond a (first n p) (cond b n (suc n)) → p i ≡ false
+    go ih true b e f l = absurd (omega (arith, ltb-true (first n p) n e))
+    go ih false true e f l = absurd (omega arith)
+    go ih false false e f l =
+        ⊎-elim (λ q. rw q f) (λ m. ih m (ltb-false (first n p) n e)) (eq-or-lt-of-le (le-of-suc-le-suc h))
+
+-- ---- the first places of a list
+
+-- the list keeps its length
+pub length-firsts : {A : Type 0} (f : ℕ → A → A) (l : List A) (n i : ℕ) → length (firsts n i f l) ≡ length l
+unfolding firsts
+length-firsts f l zero i = refl
+length-firsts f [] (suc n) i = refl
+length-firsts f (x ∷ l) (suc n) i = ap suc (length-firsts f l n (suc i))
+
+-- a changed place
+pub getD-firsts : {A : Type 0} (f : ℕ → A → A) (l : List A) (n i v : ℕ) (d : A) → v < n → v < length l
+    → getD (firsts n i f l) v d ≡ f (i + v) (getD l v d)
+unfolding firsts
+getD-firsts f [] n i v d h m = absurd (not-suc-le-zero m)
+getD-firsts f (x ∷ l) zero i v d h m = absurd (not-suc-le-zero h)
+getD-firsts f (x ∷ l) (suc n) i zero d h m = rw add-zero
+getD-firsts f (x ∷ l) (suc n) i (suc v) d h m =
+    getD-firsts f l n (suc i) v d (le-of-suc-le-suc h) (le-of-suc-le-suc m) ∙ rw (suc-add, ← add-suc)
+
+-- a place that the change leaves
+pub firsts-leaves : {A : Type 0} (f : ℕ → A → A) (l : List A) (n i v : ℕ) (d : A) → ((x : A) → f (i + v) x ≡ x)
+    → getD (firsts n i f l) v d ≡ getD l v d
+unfolding firsts
+firsts-leaves f l zero i v d h = refl
+firsts-leaves f [] (suc n) i v d h = refl
+firsts-leaves f (x ∷ l) (suc n) i zero d h = rw add-zero at (h x)
+firsts-leaves f (x ∷ l) (suc n) i (suc v) d h = firsts-leaves f l n (suc i) v d (λ y. rw (suc-add, ← add-suc) (h y))

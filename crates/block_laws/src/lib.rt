@@ -1,0 +1,1 @@
+// Theorems only: what the steps of the block keep, release and leave.

@@ -1,0 +1,48 @@
+// Sets of warps as u32 masks, warp 0 lowest: has, put, part, within, size. Each takes any set and any warp.
+ghost use mathlib.Core.Path.{_≡_};
+ghost use Rattle.sets.specs.Sets.{has as hasOf, put as putOf, part as partOf, within as withinOf, size as sizeOf};
+
+// Whether the set has warp w.
+pub fn has(set: u32, w: u8) -> bool
+    ensures { λ r. ⌜ r ≡ hasOf set w ⌝ }
+{
+    if w < 32 {
+        (set >> (w as u32)) % 2 == 1
+    } else {
+        false
+    }
+}
+
+// The set with warp w in it; above 31 there is no place, and the set stays.
+pub fn put(set: u32, w: u8) -> u32
+    ensures { λ r. ⌜ r ≡ putOf set w ⌝ }
+{
+    if w < 32 { set | (1 << (w as u32)) } else { set }
+}
+
+// Whether each warp of a is one of b.
+pub fn part(a: u32, b: u32) -> bool
+    ensures { λ r. ⌜ r ≡ partOf a b ⌝ }
+{
+    a & b == a
+}
+
+// Whether the set names only warps below n.
+pub fn within(n: u8, set: u32) -> bool
+    ensures { λ r. ⌜ r ≡ withinOf n set ⌝ }
+{
+    if n < 32 { set < 1 << (n as u32) } else { true }
+}
+
+// How many warps a set has, or how many lanes of a mask are true.
+pub fn size(set: u32) -> u32
+    ensures { λ r. ⌜ r ≡ sizeOf set ⌝ }
+{
+    let mut n: u32 = 0;
+    let mut w: u32 = 0;
+    while w < 32 {
+        n += (set >> w) % 2;
+        w += 1;
+    }
+    n
+}
