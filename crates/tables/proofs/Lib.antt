@@ -1,0 +1,5 @@
+pub mod Parts
+pub mod Chains
+pub mod Laws
+pub mod Kept
+pub mod Done

@@ -1,0 +1,5 @@
+pub mod Tables
+pub mod Refusals
+pub mod Parts
+pub mod Effect
+pub mod Laws
