@@ -16,14 +16,15 @@ use Rattle.steps.specs.declared.Op.the-variants.{Exit, Barrier, Object, Pending
 use Rattle.steps.specs.declared.Step.{Step}
 use Rattle.object.specs.Row.{dead}
 use Rattle.block.specs.declared.Turn.{Turn}
+use Rattle.block.specs.declared.Verdict.{Verdict}
 use Rattle.block.specs.declared.Verdict.the-variants.{Refused, Accepted}
 use Rattle.block.specs.Tables.{liveOf, barrierAt}
 use Rattle.block.specs.Steps as block
 use Rattle.tables.specs.declared.Taken.{Taken}
-use Rattle.tables.specs.Tables.{View, viewOf, slotOf, isAccepted, valueOf, doneOf, releasedOf}
+use Rattle.tables.specs.Tables.{View, viewOf, slotOf, numberOf, isAccepted, valueOf, doneOf, releasedOf}
 use Rattle.tables.specs.Refusals.{callOf, lines, refusal}
 use Rattle.tables.specs.Effect.{effect, refused, taken, verdict}
-use Rattle.tables.specs.Laws.{RefusedExactly, AcceptedExactly, AcceptedDoes, RefusedLeavesAll, ObjectsLeft}
+use Rattle.tables.specs.Laws.{NumberGiven, RefusedExactly, AcceptedExactly, AcceptedDoes, RefusedLeavesAll, ObjectsLeft}
 
 -- ---- a verdict and its refusal number
 
@@ -135,6 +136,20 @@ module _ (v : View) (s : Step) where
   accepted-none : isAccepted (taken v s .verdict) ≡ true → None (lines v s)
   unfolding refusal
   accepted-none e = none-holds (lines v s) goes-up .0 (free e)
+
+-- an accepted verdict has no number
+no-number : (v : Verdict) → isAccepted v ≡ true → numberOf v ≡ 0
+no-number (Refused n) e = cc
+no-number (Accepted v d r) e = refl
+
+number-of : (v : View) (e : Taken) → isAccepted (e .verdict) ≡ true → (r : ℕ) → numberOf (choice v e r .verdict) ≡ r
+number-of v e h zero = ap (λ (x : Taken). numberOf (x .verdict)) (choice-zero v e) ∙ no-number (e .verdict) h
+number-of v e h (suc r) = ap (λ (x : Taken). numberOf (x .verdict)) (choice-suc v e r)
+
+pub number-given : NumberGiven
+number-given t s =
+    let v = viewOf t s in
+    ap (λ (x : Taken). numberOf (x .verdict)) (by-number v s) ∙ number-of v (effect v (s .warp) (s .op)) (effect-accepted v (s .warp) (s .op)) (refusal v s)
 
 pub refused-exactly : RefusedExactly
 refused-exactly t s n = (refused-line (viewOf t s) s n, line-refused (viewOf t s) s n)

@@ -15,9 +15,13 @@ use Rattle.block.specs.declared.Block.{Block}
 use Rattle.block.specs.Tables.{barrierCount, barrierAt, isIdle}
 use Rattle.block.specs.Steps.{without, opened}
 use Rattle.block_laws.specs.Sound.{Shaped}
-use Rattle.tables.specs.Tables.{Tables, soundTables, viewOf, slotOf, isAccepted, valueOf, doneOf, releasedOf}
-use Rattle.tables.specs.Refusals.{lines}
+use Rattle.tables.specs.Tables.{Tables, soundTables, viewOf, slotOf, numberOf, isAccepted, valueOf, doneOf, releasedOf}
+use Rattle.tables.specs.Refusals.{lines, refusal}
 use Rattle.tables.specs.Effect.{effect, taken, verdict, after}
+
+-- a verdict's number is that of the lowest line that applies, 0 where none does
+abbrev pub NumberGiven : Type 0
+NumberGiven = (t : Tables) (s : Step) → numberOf (verdict t s) ≡ refusal (viewOf t s) s
 
 -- a step is refused with n exactly when line n of the table applies and no lower line does
 abbrev pub RefusedExactly : Type 0

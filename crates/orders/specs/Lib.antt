@@ -1,0 +1,5 @@
+pub mod Due
+pub mod Finishes
+pub mod Orders
+pub mod Example
+pub mod Tight
