@@ -1,0 +1,4 @@
+pub mod Walk
+pub mod Lend
+pub mod Entries
+pub mod Laws

@@ -1,0 +1,86 @@
+-- What is claimed of whatever the entries' promises allow, over any block, list, tally and step: demands 1 and 2 over what the caller lends.
+-- Assumes nothing.
+use mathlib.Core.Path.{_≡_}
+use mathlib.Core.Logic.{_↔_}
+use mathlib.Core.Bool.{true, false}
+use mathlib.Core.List.{List}
+use Prim.Native.Nat.{ℕ}
+use lib.ListN.{length, getD}
+use Rattle.folds.specs.Lowest.{Lowest}
+use Rattle.steps.specs.declared.Step.{Step}
+use Rattle.object.specs.declared.Object.{Object}
+use Rattle.object.specs.Row.{dead}
+use Rattle.block.specs.declared.Verdict.the-variants.{Refused}
+use Rattle.block.specs.declared.Turn.{Turn}
+use Rattle.block_laws.specs.Sound.{Shaped}
+use Rattle.tables.specs.declared.Tally.{Tally}
+use Rattle.tables.specs.Tables.{soundTables, viewOf, slotOf, isAccepted, counted, freshTables, freshTally}
+use Rattle.tables.specs.Refusals.{lines}
+use Rattle.tables.specs.Effect.{State}
+use Rattle.lent.specs.declared.Owned.{Owned}
+use Rattle.lent.specs.declared.OwnedTurn.{OwnedTurn}
+use Rattle.lent.specs.Entries.{tablesOf, Stepped, freshLines, Freshened, stateIn, ownedStep, ownedFresh}
+
+-- ---- a step
+
+-- it is refused with n exactly when line n applies and no lower line does
+abbrev pub RefusedExactly : Type 0
+RefusedExactly =
+    (x : State) (s : Step) (r : Turn) (l : List Object) (y : Tally) → Stepped x s r l y
+    → (n : ℕ) → (r .verdict ≡ Refused n) ↔ Lowest (lines (viewOf (x .tables) s) s) n
+
+-- what a refused step leaves: only the tally counts it
+pub record Left (x : State) (r : Turn) (l : List Object) (y : Tally) : Type 0 where
+  pub block : r .block ≡ x .tables .block
+  pub objects : l ≡ x .tables .objects
+  pub tally : y ≡ record { accepted = x .tally .accepted; refused = counted (x .tally .refused) }
+
+abbrev pub RefusedLeaves : Type 0
+RefusedLeaves = (x : State) (s : Step) (r : Turn) (l : List Object) (y : Tally) → Stepped x s r l y → isAccepted (r .verdict) ≡ false → Left x r l y
+
+-- the rows that the step does not name are unchanged
+abbrev pub OthersLeft : Type 0
+OthersLeft =
+    (x : State) (s : Step) (r : Turn) (l : List Object) (y : Tally) → Stepped x s r l y
+    → (i : ℕ) → (i ≡ slotOf (s .op) → ⊥) → getD l i dead ≡ getD (x .tables .objects) i dead
+
+-- sound tables stay sound
+abbrev pub KeepsSound : Type 0
+KeepsSound =
+    (x : State) (s : Step) (r : Turn) (l : List Object) (y : Tally) → Stepped x s r l y
+    → Shaped (x .tables .block) → soundTables (x .tables) ≡ true → soundTables (tablesOf (r .block) l) ≡ true
+
+-- ---- fresh tables
+
+-- they are refused with n exactly when line n applies and no lower line does
+abbrev pub FreshExactly : Type 0
+FreshExactly =
+    (l₀ : List Object) (y₀ : Tally) (w : ℕ) (r : Turn) (l : List Object) (y : Tally) → Freshened l₀ y₀ w r l y
+    → (n : ℕ) → (r .verdict ≡ Refused n) ↔ Lowest (freshLines (length l₀) w) n
+
+-- and sound where they are not refused
+abbrev pub FreshSound : Type 0
+FreshSound =
+    (l₀ : List Object) (y₀ : Tally) (w : ℕ) (r : Turn) (l : List Object) (y : Tally) → Freshened l₀ y₀ w r l y
+    → isAccepted (r .verdict) ≡ true → soundTables (tablesOf (r .block) l) ≡ true
+
+-- where they are, no list makes sound tables with the block that is answered
+abbrev pub NoneUnsound : Type 0
+NoneUnsound =
+    (l₀ : List Object) (y₀ : Tally) (w : ℕ) (r : Turn) (l : List Object) (y : Tally) → Freshened l₀ y₀ w r l y
+    → isAccepted (r .verdict) ≡ false → (l′ : List Object) → soundTables (tablesOf (r .block) l′) ≡ false
+
+-- ---- an owner
+
+-- the answer beside what is owned
+abbrev pub turnIn : OwnedTurn → Turn
+turnIn t = record { verdict = t .verdict; block = t .state .block }
+
+-- an owner's step is such a step
+abbrev pub OwnedSteps : Type 0
+OwnedSteps = (o : Owned) (s : Step) → Stepped (stateIn o) s (turnIn (ownedStep o s)) (ownedStep o s .state .objects) (ownedStep o s .state .tally)
+
+-- and its fresh tables are such tables, over 64 dead rows and a tally of zeros
+abbrev pub OwnedFreshens : Type 0
+OwnedFreshens =
+    (w : ℕ) → Freshened (freshTables w .objects) freshTally w (turnIn (ownedFresh w)) (ownedFresh w .state .objects) (ownedFresh w .state .tally)

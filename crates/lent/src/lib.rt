@@ -1,0 +1,229 @@
+// The tables that the caller lends, a list of object rows and a tally: the row that a step names is copied, stepped by value and stored back.
+use block::Block;
+use block::Turn;
+use block::Verdict;
+use object::Object;
+use steps::Step;
+use tables::Taken;
+use tables::Tally;
+ghost use mathlib.Core.Path.{_≡_};
+ghost use lib.ListN.{length, getD, set, replicate};
+ghost use Rattle.object.specs.Row.{dead};
+ghost use Rattle.tables.specs.Tables.{soundTables, soundObjects, slotOf, tallied, freshTally};
+ghost use Rattle.lent.specs.Entries.{tablesOf, stateOf, turnOf, Stepped, freshRefusal, freshTurn, Freshened, bundled, ownedStep, ownedFresh};
+
+// How many records the list has.
+const SLOTS: usize = 64;
+
+// A block has at most 32 warps.
+const MOST_WARPS: u8 = 32;
+
+// Block, list and tally by value, for whoever owns them.
+pub struct Owned {
+    pub block: Block,
+    pub objects: [Object; SLOTS],
+    pub tally: Tally,
+}
+
+// A verdict, and what is owned after the step.
+pub struct OwnedTurn {
+    pub verdict: Verdict,
+    pub state: Owned,
+}
+
+// Whether the list has 64 records and each is sound; the first that is not ends the check.
+pub fn rows_sound(objects: &[Object]) -> bool
+    ensures { λ r. ⌜ r ≡ soundObjects (now (objects .entry)) ⌝ }
+{
+    if objects.len() != SLOTS {
+        return false;
+    }
+    let mut i: usize = 0;
+    while i < SLOTS {
+        if !object::sound(objects[i]) {
+            return false;
+        }
+        i += 1;
+    }
+    true
+}
+
+// Whether the tables of this block and this list are sound.
+pub fn sound(b: Block, objects: &[Object]) -> bool
+    ensures { λ r. ⌜ r ≡ soundTables (tablesOf b (now (objects .entry))) ⌝ }
+{
+    block::sound(b) & rows_sound(objects)
+}
+
+// A copy of row i, and of the dead row past the end.
+fn row_at(objects: &[Object], i: usize) -> Object
+    ensures { λ r. ⌜ r ≡ getD (now (objects .entry)) i dead ⌝ }
+{
+    if objects.len() <= i {
+        return object::dead();
+    }
+    objects[i]
+}
+
+// Stores a row at i, and past the end nothing.
+fn put_row(objects: &mut [Object], i: usize, row: Object)
+    ensures { λ _. ⌜ now (objects .exit) ≡ set (now (objects .entry)) i row ⌝ }
+{
+    if objects.len() <= i {
+        return;
+    }
+    objects[i] = row;
+}
+
+// Makes every row dead.
+fn fresh_rows(objects: &mut [Object])
+    ensures { λ _. ⌜ now (objects .exit) ≡ replicate (length (now (objects .entry))) dead ⌝ }
+{
+    let n = objects.len();
+    let row = object::dead();
+    let mut i: usize = 0;
+    while i < n {
+        objects[i] = row;
+        i += 1;
+    }
+}
+
+// One more accepted or refused, in place.
+fn count(tally: &mut Tally, v: Verdict)
+    ensures { λ _. ⌜ now (tally .exit) ≡ tallied (now (tally .entry)) v ⌝ }
+{
+    *tally = tables::add(*tally, v);
+}
+
+// The row that a step names.
+fn slot(s: Step) -> usize
+    ensures { λ r. ⌜ r ≡ slotOf (s .op) ⌝ }
+{
+    let op = s.op;
+    tables::slot_of(op)
+}
+
+// The answer of a step that was taken.
+fn turn_of(t: Taken) -> Turn
+    ensures { λ r. ⌜ r ≡ turnOf t ⌝ }
+{
+    let verdict = t.verdict;
+    let block = t.block;
+    Turn { verdict, block }
+}
+
+// One step: refused, it leaves block and list; either way the tally counts it.
+pub fn step(b: Block, objects: &mut [Object], tally: &mut Tally, s: Step) -> Turn
+    ensures { λ r. ⌜ Stepped (stateOf b (now (objects .entry)) (now (tally .entry))) s r (now (objects .exit)) (now (tally .exit)) ⌝ }
+{
+    let fine = rows_sound(objects);
+    let at = slot(s);
+    let row = row_at(objects, at);
+    let out = tables::take(b, fine, row, s);
+    put_row(objects, at, out.object);
+    count(tally, out.verdict);
+    turn_of(out)
+}
+
+// The lowest line that refuses fresh tables over so many records, and 0 if none does.
+fn fresh_refusal(rows: usize, warps: u8) -> u8
+    ensures { λ r. ⌜ r ≡ freshRefusal rows warps ⌝ }
+{
+    if rows != SLOTS {
+        return 3;
+    }
+    if (warps == 0) | (MOST_WARPS < warps) {
+        return 4;
+    }
+    0
+}
+
+// The answer to whoever asks for fresh tables, where the refusal number is n.
+fn fresh_turn(n: u8, warps: u8) -> Turn
+    ensures { λ r. ⌜ r ≡ freshTurn n warps ⌝ }
+{
+    if n != 0 {
+        let block = block::fresh(0);
+        return Turn {
+            verdict: Verdict::Refused(n),
+            block,
+        };
+    }
+    let block = block::fresh(warps);
+    Turn {
+        verdict: Verdict::Accepted {
+            value: 0,
+            done: false,
+            released: 0,
+        },
+        block,
+    }
+}
+
+// A tally of zeros.
+fn fresh_tally() -> Tally
+    ensures { λ r. ⌜ r ≡ freshTally ⌝ }
+{
+    Tally {
+        accepted: 0,
+        refused: 0,
+    }
+}
+
+// Fresh tables for a number of warps; refused, they leave list and tally.
+pub fn fresh(objects: &mut [Object], tally: &mut Tally, warps: u8) -> Turn
+    ensures { λ r. ⌜ Freshened (now (objects .entry)) (now (tally .entry)) warps r (now (objects .exit)) (now (tally .exit)) ⌝ }
+{
+    let n = fresh_refusal(objects.len(), warps);
+    if n != 0 {
+        return fresh_turn(n, warps);
+    }
+    fresh_rows(objects);
+    *tally = fresh_tally();
+    fresh_turn(n, warps)
+}
+
+// The owner of what a step left.
+fn bundle(t: Turn, objects: [Object; SLOTS], tally: Tally) -> OwnedTurn
+    ensures { λ r. ⌜ r ≡ bundled t objects tally ⌝ }
+{
+    let verdict = t.verdict;
+    let block = t.block;
+    OwnedTurn {
+        verdict,
+        state: Owned {
+            block,
+            objects,
+            tally,
+        },
+    }
+}
+
+// One step on block, list and tally by value: list and tally are lent to `step` where they lie.
+fn step_parts(b: Block, mut objects: [Object; SLOTS], mut tally: Tally, s: Step) -> OwnedTurn
+    ensures { λ r. ⌜ r ≡ ownedStep (record { block = b; objects = objects; tally = tally }) s ⌝ }
+{
+    let t = step(b, &mut objects, &mut tally, s);
+    bundle(t, objects, tally)
+}
+
+// One step on what is owned.
+pub fn step_owned(o: Owned, s: Step) -> OwnedTurn
+    ensures { λ r. ⌜ r ≡ ownedStep o s ⌝ }
+{
+    let block = o.block;
+    let objects = o.objects;
+    let tally = o.tally;
+    step_parts(block, objects, tally, s)
+}
+
+// Fresh tables for a number of warps, owned.
+pub fn fresh_owned(warps: u8) -> OwnedTurn
+    ensures { λ r. ⌜ r ≡ ownedFresh warps ⌝ }
+{
+    let n = fresh_refusal(SLOTS, warps);
+    let row = object::dead();
+    let objects = [row; SLOTS];
+    let tally = fresh_tally();
+    bundle(fresh_turn(n, warps), objects, tally)
+}

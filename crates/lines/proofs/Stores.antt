@@ -1,0 +1,49 @@
+-- Stores one after the other, and what lies at the start of a list after them.
+-- Assumes nothing.
+use mathlib.Core.Path.{_≡_, refl, sym, ap, _∙_}
+use mathlib.Core.List.{List, [], _∷_, _++_}
+use Prim.Native.Nat.{ℕ, suc, _+_, _≤_}
+use native.Mathlib.Omega.{arith}
+use native.Mathlib.Nat.{add-zero}
+use lib.ListN.{length, take, drop, set, length-append}
+use lib.Seq.{sets, sets-eq, length-sets, take-at}
+
+-- stores one after the other are the stores of the whole
+pub sets-append : (l : List ℕ) (i j : ℕ) (xs ys : List ℕ) → i + length xs ≡ j → sets (sets l i xs) j ys ≡ sets l i (xs ++ ys)
+sets-append l i j [] ys e = rw (← e, add-zero)
+sets-append l i j (x ∷ xs) ys e = sets-append (set l i x) (suc i) j xs ys (omega arith)
+
+-- what was stored at the start lies there
+pub take-sets : (l l′ w : List ℕ) (k : ℕ) → k ≡ length w → k ≤ length l → l′ ≡ sets l 0 w → take k l′ ≡ w
+take-sets l l′ w k size h e =
+    let at-start : l′ ≡ w ++ drop (0 + length w) l = e ∙ sets-eq w l 0 (omega arith) in
+    rw at-start (take-at w (drop (0 + length w) l) k (sym size))
+
+-- these bytes were stored from the start of l on, up to a place
+pub record Stored (l w l′ : List ℕ) (j : ℕ) : Type 0 where
+  pub lies : l′ ≡ sets l 0 w
+  pub upto : j ≡ length w
+
+-- and these after them
+pub next : {l w l′ l″ : List ℕ} {j k : ℕ} → Stored l w l′ j → (x : List ℕ) → l″ ≡ sets l′ j x → k ≡ j + length x → Stored l (w ++ x) l″ k
+next {l} {w} {l′} {l″} {j} {k} s x e f = record {
+  lies = e ∙ ap (λ m. sets m j x) (s .lies) ∙ sets-append l 0 j w x (omega (arith, s .upto));
+  upto = omega (arith, s .upto, length-append w x);
+}
+
+-- a word and the byte after it
+pub next-word : {l w l′ l″ : List ℕ} {j k : ℕ} → Stored l w l′ j → (x : List ℕ) (b : ℕ) → l″ ≡ sets l′ j (x ++ b ∷ []) → k ≡ j + length x + 1
+    → Stored l (w ++ (x ++ b ∷ [])) l″ k
+next-word s x b e f = next s (x ++ b ∷ []) e (omega (arith, length-append x (b ∷ [])))
+
+-- nothing yet
+pub begin : (l : List ℕ) → Stored l [] l 0
+begin l = record { lies = refl; upto = refl }
+
+-- the length stays
+pub same : {l w l′ : List ℕ} {j : ℕ} → Stored l w l′ j → length l′ ≡ length l
+same {l} {w} s = ap length (s .lies) ∙ length-sets l 0 w
+
+-- a number and what stands after it, from the start on
+pub numbered : {l l′ : List ℕ} {j : ℕ} (x y : List ℕ) → l′ ≡ sets l 0 (x ++ y) → j ≡ length x + length y → Stored l (x ++ y) l′ j
+numbered {l} x y e f = next (begin l) (x ++ y) e (omega (arith, length-append x y))

@@ -1,0 +1,4 @@
+pub mod Text
+pub mod Turns
+pub mod Laws
+pub mod Buffer

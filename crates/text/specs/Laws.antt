@@ -1,0 +1,39 @@
+-- What is claimed of the text of a trace.
+-- Assumes nothing.
+use mathlib.Core.Path.{_≡_}
+use mathlib.Core.List.{List, [], _∷_}
+use Prim.Native.Nat.{ℕ, _≤_}
+use lib.ListN.{length, getD}
+use Rattle.tables.specs.Tables.{freshTables}
+use Rattle.text.specs.Text.{answersFrom, answers, traceRefusal, textOf, roomFor}
+use Rattle.text.specs.Turns.{startOf, textFrom}
+
+-- as many steps as there are bytes are enough: more that may be read change nothing
+abbrev pub MoreChangesNothing : Type 0
+MoreChangesNothing = (s : List ℕ) (most : ℕ) → length s ≤ most → answersFrom most s (freshTables (getD s 0 0)) 1 ≡ answers s
+
+-- the text of a trace that is not refused before its steps is what turn after turn gives from the start on
+abbrev pub TurnByTurn : Type 0
+TurnByTurn = (s : List ℕ) (most : ℕ) → traceRefusal s ≡ 0 → length s ≤ most → textFrom most s (startOf (getD s 0 0)) ≡ textOf s
+
+-- the room for a trace of some length is enough for its text
+abbrev pub RoomIsEnough : Type 0
+RoomIsEnough = (s : List ℕ) → length (textOf s) ≤ roomFor (length s)
+
+-- the whole case
+abbrev pub wholeTrace : List ℕ
+wholeTrace = 0x02 ∷ 0x02 ∷ 0x00 ∷ 0x03 ∷ 0x02 ∷ 0x01 ∷ 0x03 ∷ 0x07 ∷ 0x00 ∷ 0x00 ∷ 0x00 ∷ 0x00 ∷ 0x00 ∷ 0x00 ∷ 0x00 ∷ []
+
+abbrev pub wholeText : List ℕ
+wholeText =
+    -- 1 ok 0 0 00000000
+    49 ∷ 32 ∷ 111 ∷ 107 ∷ 32 ∷ 48 ∷ 32 ∷ 48 ∷ 32 ∷ 48 ∷ 48 ∷ 48 ∷ 48 ∷ 48 ∷ 48 ∷ 48 ∷ 48 ∷ 10
+    -- 2 ok 0 1 00000003
+    ∷ 50 ∷ 32 ∷ 111 ∷ 107 ∷ 32 ∷ 48 ∷ 32 ∷ 49 ∷ 32 ∷ 48 ∷ 48 ∷ 48 ∷ 48 ∷ 48 ∷ 48 ∷ 48 ∷ 51 ∷ 10
+    -- 3 no 14
+    ∷ 51 ∷ 32 ∷ 110 ∷ 111 ∷ 32 ∷ 49 ∷ 52 ∷ 10
+    -- end 2 1
+    ∷ 101 ∷ 110 ∷ 100 ∷ 32 ∷ 50 ∷ 32 ∷ 49 ∷ 10 ∷ []
+
+abbrev pub WholeCase : Type 0
+WholeCase = textOf wholeTrace ≡ wholeText

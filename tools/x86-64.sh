@@ -1,0 +1,20 @@
+# Sourced at the root of the repository by scripts that link the checker's archive,
+# which is compiled for x86-64 whatever the machine. Sets $cxx, a C++ compiler for
+# it (installed where missing) with what it needs to link statically, and
+# $emulator, which runs such programs here and is empty where nothing is needed.
+if [ "$(uname -m)" = x86_64 ]; then
+    cxx=g++ package=g++
+else
+    cxx=x86_64-linux-gnu-g++ package=g++-x86-64-linux-gnu
+fi
+command -v "$cxx" >/dev/null || { apt-get update && apt-get install -y "$package"; } >&2
+if [ "$(uname -m)" != x86_64 ]; then
+    # Debian's libm.a for this compiler is a script that names files by the paths
+    # of an x86-64 machine; the library itself stands beside it.
+    mkdir -p target/x86-64
+    ln -sf "$(dirname "$("$cxx" -print-file-name=libm.a)")"/libm-*.a target/x86-64/libm.a
+    cxx="$cxx -Ltarget/x86-64"
+fi
+home=$(dirname "$(dirname "$(rt doc)")")
+emulator=$home/on/$(uname -m)/toolchain/bin/qemu-x86_64
+[ -x "$emulator" ] || emulator=
