@@ -72,15 +72,17 @@ module _ (n j : ℕ) (h : Fewest 10 1 n (suc j)) (small : j ≤ 19) where
   places-suc : places n ≡ suc j
   places-suc = omega (arith, ⊎-elim last found (eq-or-lt-of-le small))
 
+-- the fewest digits that hold a u64 are its decimal text
 pub decimal-is : (n k : ℕ) → n < 18446744073709551616 → Fewest 10 1 n k → digits 10 k n ≡ decimal n
 unfolding decimal
 decimal-is n zero fits h = absurd (omega arith)
 decimal-is n (suc j) fits h = rw (places-suc n j h (omega (arith, fewest-most 10 1 20 n (suc j) (zero-lt-suc 9) (omega arith) (omega arith) h)))
 
-pub length-decimal : (n : ℕ) → length (decimal n) ≡ places n
+length-decimal : (n : ℕ) → length (decimal n) ≡ places n
 unfolding decimal
 length-decimal n = length-digits 10 (places n) n
 
+-- 20 at most
 pub decimal-most : (n : ℕ) → length (decimal n) ≤ 20
 decimal-most n = omega (arith, length-decimal n, first-most (λ k. ltb n (10 ^ (k + 1))) 19)
 
