@@ -9,6 +9,7 @@
 #include <ctime>
 #include <functional>
 #include <memory>
+#include <string_view>
 #include <utility>
 #include <vector>
 
@@ -21,7 +22,7 @@ using Bytes = std::vector<std::uint8_t>;
 
 constexpr std::size_t longest_trace = 65536;
 constexpr std::size_t lengths[] = {1000, 8000, 32000};
-constexpr int runs = 15;
+constexpr int all_runs = 15, few_runs = 3;
 
 struct Trace {
   Bytes bytes;
@@ -118,7 +119,7 @@ double now() {
 }
 
 // Nanoseconds a step, the best of several runs; the engines take turns.
-std::vector<double> times(const std::vector<Check> &checks, const Trace &trace) {
+std::vector<double> times(const std::vector<Check> &checks, const Trace &trace, int runs) {
   std::vector<double> best(checks.size(), 1e18);
   const Room room(trace);
   for (int run = 0; run < runs; ++run)
@@ -154,7 +155,9 @@ void print_peaks(const Trace &trace) {
 
 }  // namespace
 
-int main() {
+// With the word short as its argument it makes few runs.
+int main(int argc, char **argv) {
+  const int runs = argc == 2 && argv[1] == std::string_view("short") ? few_runs : all_runs;
   const std::vector<Check> checks = {checker, by_rows, by_masks};
   const std::pair<const char *, Trace (*)(std::size_t)> workloads[] = {
       {"barriers", barriers}, {"objects", objects}, {"mixed", mixed}};
@@ -172,7 +175,7 @@ int main() {
         std::printf("FAILED: the texts differ\n");
         return 1;
       }
-      const std::vector<double> best = times(checks, trace);
+      const std::vector<double> best = times(checks, trace, runs);
       std::printf("%-8s %6zu %8.0f %10.0f %6.2f %8.0f %6.2f\n", name, trace.steps, best[0], best[1],
                   best[0] / best[1], best[2], best[0] / best[2]);
     }

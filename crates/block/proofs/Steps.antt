@@ -105,20 +105,17 @@ module _ (b : Block) (w k : ℕ) (c : Call) where
   unfolding arrival
   is-refused n e h = rw (← e, ne-eqb n 0 h)
 
-  module _ (r r₀ : Barrier) (before : r₀ ≡ barrierAt b k) (arrived : r ≡ arrivedRow r₀ w c) (free : arrivalRefusal b w k c ≡ 0) where
-    arrived-there : r ≡ arrivedRow (barrierAt b k) w c
-    arrived-there = arrived ∙ ap (λ (x : Barrier). arrivedRow x w c) before
+  module _ (r : Barrier) (arrived : r ≡ arrivedRow (barrierAt b k) w c) (alive : ℕ) (live : alive ≡ liveOf b) (free : arrivalRefusal b w k c ≡ 0) where
+    same-end : (t : Bool) → completes alive r ≡ t → completes (liveOf b) (arrivedRow (barrierAt b k) w c) ≡ t
+    same-end t h = subst (λ (x : Barrier). completes (liveOf b) x ≡ t) arrived (subst (λ (n : ℕ). completes n r ≡ t) live h)
 
-    same-end : (t : Bool) → completes (liveOf b) r ≡ t → completes (liveOf b) (arrivedRow (barrierAt b k) w c) ≡ t
-    same-end t = subst (λ (x : Barrier). completes (liveOf b) x ≡ t) arrived-there
-
-    pub is-completed : completes (liveOf b) r ≡ true → completed b k r ≡ arrival b w k c
+    pub is-completed : completes alive r ≡ true → completed b k r ≡ arrival b w k c
     unfolding arrival
-    is-completed h = ap (λ (x : Barrier). completed b k x) arrived-there ∙ rw (free, same-end true h)
+    is-completed h = ap (λ (x : Barrier). completed b k x) arrived ∙ rw (free, same-end true h)
 
-    pub is-going-on : completes (liveOf b) r ≡ false → goesOn b k r w (c .waits) ≡ arrival b w k c
+    pub is-going-on : completes alive r ≡ false → goesOn b k r w (c .waits) ≡ arrival b w k c
     unfolding arrival
-    is-going-on h = ap (λ (x : Barrier). goesOn b k x w (c .waits)) arrived-there ∙ rw (free, same-end false h)
+    is-going-on h = ap (λ (x : Barrier). goesOn b k x w (c .waits)) arrived ∙ rw (free, same-end false h)
 
 -- ---- the ends of an exit
 
@@ -142,7 +139,6 @@ module _ (b : Block) (w : ℕ) where
     unfolding exit
     exit-opens = subst Opens (sym gone) (λ h. rw (free, lt-ltb (opened (without b w)) barrierCount h))
 
-    pub exit-completes : (k : ℕ) (r : Barrier) → k ≡ opened e → r ≡ barrierAt e k → k < barrierCount → completed e k r ≡ exit b w
-    exit-completes k r q s h =
-        ap (λ (x : Barrier). completed e k x) s ∙ ap (λ (j : ℕ). completed e j (barrierAt e j)) q
-        ∙ exit-opens (subst (λ (j : ℕ). j < barrierCount) q h)
+    pub exit-completes : (k : ℕ) → k ≡ opened e → k < barrierCount → completed e k (barrierAt e k) ≡ exit b w
+    exit-completes k q h =
+        ap (λ (j : ℕ). completed e j (barrierAt e j)) q ∙ exit-opens (subst (λ (j : ℕ). j < barrierCount) q h)

@@ -60,19 +60,25 @@ abbrev pub noSuchBarrier : ℕ → Bool
 noSuchBarrier k = leb barrierCount k
 
 -- 7: threads given, and 0, no multiple of 32, or above 32 times the warps
+abbrev pub badCount : ℕ → Threads → Bool
+badCount n All = false
+badCount n (Given t) = eqb t 0 || (not (eqb (t % laneCount) 0) || ltb (laneCount * n) t)
+
 abbrev pub badThreads : Block → Threads → Bool
-badThreads b All = false
-badThreads b (Given t) = eqb t 0 || (not (eqb (t % laneCount) 0) || ltb (laneCount * b .warps) t)
+badThreads b t = badCount (b .warps) t
 
 -- 8: selector not 0, 1, 2, 4, 5 or 6
 abbrev pub badSelector : ℕ → Bool
 badSelector s = not (eqb s 0 || (eqb s 1 || (eqb s 2 || (eqb s 4 || (eqb s 5 || eqb s 6)))))
 
 -- 9: barrier active with another thread count or form
+abbrev pub differs : Barrier → Call → Bool
+differs r c =
+    not (isIdle (r .form))
+    && (not (eqb (r .threads) (countOf (c .threads))) || not (eqb (formNumber (r .form)) (formNumber (c .form))))
+
 abbrev pub clashes : Block → ℕ → Call → Bool
-clashes b k c =
-    not (isIdle (barrierAt b k .form))
-    && (not (eqb (barrierAt b k .threads) (countOf (c .threads))) || not (eqb (formNumber (barrierAt b k .form)) (formNumber (c .form))))
+clashes b k c = differs (barrierAt b k) c
 
 -- 10: this warp has already arrived there
 abbrev pub alreadyArrived : Block → ℕ → ℕ → Bool

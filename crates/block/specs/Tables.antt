@@ -154,8 +154,12 @@ rowSound n live r =
 abbrev pub warpsSound : Block → Bool
 warpsSound b = all mostWarps (λ w. warpSound (b .warps) w (warpAt b w))
 
+-- the barrier rows, where the warps of live have not exited
+abbrev pub rowsFine : Block → ℕ → Bool
+rowsFine b live = all barrierCount (λ k. rowSound (b .warps) live (barrierAt b k))
+
 abbrev pub rowsSound : Block → Bool
-rowsSound b = all barrierCount (λ k. rowSound (b .warps) (liveOf b) (barrierAt b k))
+rowsSound b = rowsFine b (liveOf b)
 
 abbrev pub agreeing : Block → Bool
 agreeing b = all barrierCount (λ k. all mostWarps (λ w. agreesAt b k w))

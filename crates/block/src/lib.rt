@@ -1,24 +1,24 @@
 // The block: its warps and its sixteen named barriers, by value; when it is sound, and what exit, sync, arrive and red do to it.
 mod refusals;
 mod rows;
-mod soundness;
 
 ghost use mathlib.Core.Path.{_≡_};
-ghost use mathlib.Core.Bool.{cond};
+ghost use mathlib.Core.Bool.{not, cond, _&&_};
 ghost use Prim.Native.Nat.{_<_};
+ghost use lib.Dec.{ltb};
 ghost use Rattle.sets.specs.Sets.{has};
-ghost use Rattle.block.specs.Tables.{barrierCount, liveOf, soundBlock, freshBlock};
+ghost use Rattle.block.specs.Tables.{barrierCount, formNumber, isReady, isExited, liveOf, freshBlock};
 ghost use Rattle.block.specs.Steps.{syncCall, arriveCall, redCall, warpRefusal, completes as completesOf};
 ghost use Rattle.block.specs.Steps.{resultOf, releasedWarp, releasedWarps, completed, goesOn, arrival as arrivalOf, without as withoutOf, opened as openedOf, exit as exitOf};
 
 // A block has at most 32 warps.
-const MOST_WARPS: u8 = 32;
+pub const MOST_WARPS: u8 = 32;
 
 // A warp has 32 lanes.
-const LANE_COUNT: u32 = 32;
+pub const LANE_COUNT: u32 = 32;
 
 // There are sixteen named barriers.
-const BARRIER_COUNT: u8 = 16;
+pub const BARRIER_COUNT: u8 = 16;
 
 // The largest number of a row, at which a sum stays.
 const LARGEST: u32 = 4294967295;
@@ -102,6 +102,50 @@ pub fn fresh(warps: u8) -> Block
     }
 }
 
+// The number of a form.
+pub fn form_number(f: Form) -> u8
+    ensures { λ r. ⌜ r ≡ formNumber f ⌝ }
+{
+    match f {
+        Form::Idle => 0,
+        Form::Plain => 1,
+        Form::Popc => 2,
+        Form::And => 3,
+        Form::Or => 4,
+    }
+}
+
+// Whether the warp is ready.
+pub fn is_ready(row: Warp) -> bool
+    ensures { λ r. ⌜ r ≡ isReady (row .status) ⌝ }
+{
+    let s = row.status;
+    match s {
+        Status::Ready => true,
+        Status::Waiting(_) => false,
+        Status::Exited => false,
+    }
+}
+
+// Whether the warp has exited.
+fn is_exited(row: Warp) -> bool
+    ensures { λ r. ⌜ r ≡ isExited (row .status) ⌝ }
+{
+    let s = row.status;
+    match s {
+        Status::Ready => false,
+        Status::Waiting(_) => false,
+        Status::Exited => true,
+    }
+}
+
+// Whether warp w is one of a block of n and has not exited.
+pub fn is_live(n: u8, w: u8, row: Warp) -> bool
+    ensures { λ r. ⌜ r ≡ ltb w n && not (isExited (row .status)) ⌝ }
+{
+    (w < n) & !is_exited(row)
+}
+
 // The warps of the block that have not exited.
 pub fn live(b: Block) -> u32
     ensures { λ r. ⌜ r ≡ liveOf b ⌝ }
@@ -111,27 +155,10 @@ pub fn live(b: Block) -> u32
     let mut w: u8 = 0;
     while w < MOST_WARPS {
         let row = b.rows[w as usize];
-        let here = (w < n) & !rows::is_exited(row);
-        set += (here as u32) << (w as u32);
+        set += (is_live(n, w, row) as u32) << (w as u32);
         w += 1;
     }
     set
-}
-
-// Whether the block's tables are sound.
-pub fn sound(b: Block) -> bool
-    ensures { λ r. ⌜ r ≡ soundBlock b ⌝ }
-{
-    if !((1 <= b.warps) & (b.warps <= MOST_WARPS)) {
-        return false;
-    }
-    if !soundness::warps_sound(b) {
-        return false;
-    }
-    if !soundness::rows_sound(b) {
-        return false;
-    }
-    soundness::agrees(b)
 }
 
 // What a sync asks for.
@@ -179,19 +206,21 @@ pub fn warp_refusal(b: Block, w: u8) -> u8
     if b.warps <= w {
         return 4;
     }
-    let row = rows::warp_row(b, w);
-    if !rows::is_ready(row) {
-        return 5;
+    if w < MOST_WARPS {
+        let row = b.rows[w as usize];
+        if !is_ready(row) {
+            return 5;
+        }
     }
     0
 }
 
-// Whether a barrier of the block completes with row r.
-fn completes(b: Block, r: Barrier) -> bool
-    ensures { λ t. ⌜ t ≡ completesOf (liveOf b) r ⌝ }
+// Whether a barrier completes with row r, in a block of which the warps of alive have not exited.
+fn completes(alive: u32, r: Barrier) -> bool
+    ensures { λ t. ⌜ t ≡ completesOf alive r ⌝ }
 {
     if r.threads == 0 {
-        return sets::part(live(b), r.arrived);
+        return sets::part(alive, r.arrived);
     }
     LANE_COUNT * sets::size(r.arrived) == r.threads as u32
 }
@@ -205,7 +234,7 @@ fn freed(r: Barrier, value: u32, w: u8, row: Warp) -> Warp
         return row;
     }
     let f = r.form;
-    if 1 < rows::form_number(f) {
+    if 1 < form_number(f) {
         return Warp {
             status: Status::Ready,
             result: value,
@@ -290,8 +319,9 @@ pub fn arrival(b: Block, w: u8, k: u8, c: Call) -> Turn
             block: b,
         };
     }
-    let r = rows::arrived_row(rows::barrier_row(b, k), w, c);
-    if completes(b, r) {
+    let before = b.barriers[k as usize];
+    let r = rows::arrived_row(before, w, c);
+    if completes(live(b), r) {
         return complete(b, k, r);
     }
     go_on(b, k, r, w, c.waits)
@@ -320,7 +350,7 @@ fn opened(b: Block) -> u8
     while k < BARRIER_COUNT {
         let r = b.barriers[k as usize];
         let f = r.form;
-        if !(rows::form_number(f) == 0) & (r.threads == 0) & sets::part(alive, r.arrived) {
+        if !(form_number(f) == 0) & (r.threads == 0) & sets::part(alive, r.arrived) {
             break;
         }
         k += 1;
@@ -342,7 +372,8 @@ pub fn exit(b: Block, w: u8) -> Turn
     let e = without(b, w);
     let k = opened(e);
     if k < BARRIER_COUNT {
-        return complete(e, k, rows::barrier_row(e, k));
+        let r = e.barriers[k as usize];
+        return complete(e, k, r);
     }
     Turn {
         verdict: Verdict::Accepted {

@@ -1,12 +1,9 @@
-// One row: where it stands, what it says, what an arrival makes of it, and the result of one that completes.
-use crate::BARRIER_COUNT;
+// One row: a fresh one, what an arrival makes of it, and the result of one that completes.
 use crate::Barrier;
-use crate::Block;
 use crate::Call;
 use crate::Form;
 use crate::LANE_COUNT;
 use crate::LARGEST;
-use crate::MOST_WARPS;
 use crate::Status;
 use crate::Threads;
 use crate::Warp;
@@ -14,7 +11,7 @@ ghost use mathlib.Core.Path.{_≡_};
 ghost use mathlib.Core.Bool.{cond};
 ghost use Prim.Native.Nat.{_+_};
 ghost use Rattle.sets.specs.Sets.{put};
-ghost use Rattle.block.specs.Tables.{freshWarp, idle, warpAt, barrierAt, formNumber, isReady, isExited, waitsAt, waitsPlaced};
+ghost use Rattle.block.specs.Tables.{freshWarp, idle};
 ghost use Rattle.block.specs.Steps.{formOf, lanesOf, countOf, upToLargest, arrivedRow, resultOf};
 
 // A ready warp's row, with result 0.
@@ -37,89 +34,6 @@ pub fn idle_row() -> Barrier
         arrived: 0,
         waiting: 0,
         trues: 0,
-    }
-}
-
-// The row of warp w, a fresh one where there is none.
-pub fn warp_row(b: Block, w: u8) -> Warp
-    ensures { λ r. ⌜ r ≡ warpAt b w ⌝ }
-{
-    if w < MOST_WARPS {
-        b.rows[w as usize]
-    } else {
-        fresh_warp()
-    }
-}
-
-// The row of barrier k, an idle one where there is none.
-pub fn barrier_row(b: Block, k: u8) -> Barrier
-    ensures { λ r. ⌜ r ≡ barrierAt b k ⌝ }
-{
-    if k < BARRIER_COUNT {
-        b.barriers[k as usize]
-    } else {
-        idle_row()
-    }
-}
-
-// The number of a form.
-pub fn form_number(f: Form) -> u8
-    ensures { λ r. ⌜ r ≡ formNumber f ⌝ }
-{
-    match f {
-        Form::Idle => 0,
-        Form::Plain => 1,
-        Form::Popc => 2,
-        Form::And => 3,
-        Form::Or => 4,
-    }
-}
-
-// Whether the warp is ready.
-pub fn is_ready(row: Warp) -> bool
-    ensures { λ r. ⌜ r ≡ isReady (row .status) ⌝ }
-{
-    let s = row.status;
-    match s {
-        Status::Ready => true,
-        Status::Waiting(_) => false,
-        Status::Exited => false,
-    }
-}
-
-// Whether the warp has exited.
-pub fn is_exited(row: Warp) -> bool
-    ensures { λ r. ⌜ r ≡ isExited (row .status) ⌝ }
-{
-    let s = row.status;
-    match s {
-        Status::Ready => false,
-        Status::Waiting(_) => false,
-        Status::Exited => true,
-    }
-}
-
-// Whether the warp waits at barrier k.
-pub fn waits_at(row: Warp, k: u8) -> bool
-    ensures { λ r. ⌜ r ≡ waitsAt (row .status) k ⌝ }
-{
-    let s = row.status;
-    match s {
-        Status::Ready => false,
-        Status::Waiting(at) => at == k,
-        Status::Exited => false,
-    }
-}
-
-// Whether the warp, if it waits, waits at a barrier that there is.
-pub fn waits_placed(row: Warp) -> bool
-    ensures { λ r. ⌜ r ≡ waitsPlaced (row .status) ⌝ }
-{
-    let s = row.status;
-    match s {
-        Status::Ready => true,
-        Status::Waiting(at) => at < BARRIER_COUNT,
-        Status::Exited => true,
     }
 }
 

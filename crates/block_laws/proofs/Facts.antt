@@ -8,7 +8,7 @@ use native.Mathlib.Decide.{ℕ-discrete}
 use lib.Dec.{eqb, leb}
 use borrow.Author.Tests.{eq-eqb, ne-eqb, eqb-true, eqb-false, lt-ltb, ltb-true, le-leb, leb-true, leb-false, not-true, not-false}
 use Rattle.folds.specs.Folds.{every}
-use Rattle.folds.proofs.Folds.{every-at, all-at, all-of, none-at}
+use Rattle.folds.proofs.Folds.{every-at, all-at, all-of, none-at, alike, alike-of}
 use Rattle.sets.specs.Sets.{has, part, within, size}
 use Rattle.block.specs.Tables.{mostWarps, laneCount, barrierCount, warpAt, barrierAt, liveOf, isIdle, isPlain, isReduction, isReady, waitsAt, setsInside, idleZero, activeArrived, activeCount, countOpen, allOpen, reductionWaits, plainNone, warpSound, rowSound, rowsSound, agreeing, soundBlock}
 use Rattle.block.specs.Steps.{badThreads, clashes, warpRefusal, arrivalRefusal}
@@ -17,7 +17,7 @@ use Rattle.block.specs.declared.Status.the-variants.{Ready, Waiting, Exited}
 use Rattle.block.specs.declared.Barrier.{Barrier}
 use Rattle.block.specs.declared.Block.{Block}
 use Rattle.block.specs.declared.Call.{Call}
-use Rattle.block_laws.proofs.General.{then, implied, both, each, not-of, not-is, alike, alike-of}
+use Rattle.block_laws.proofs.General.{then, implied, both, each, not-of, not-is}
 
 -- ---- a barrier row
 

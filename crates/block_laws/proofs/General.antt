@@ -1,7 +1,7 @@
 -- Laws of tests, of the first number of which a test holds, and of the changed first places of a list.
 -- Assumes nothing.
 use mathlib.Core.Path.{_≡_, refl, sym, ap, _∙_}
-use mathlib.Core.Bool.{Bool, true, false, not, cond, _&&_, _||_, Bool·beq}
+use mathlib.Core.Bool.{Bool, true, false, not, cond, _&&_, _||_}
 use mathlib.Core.Logic.{⊎-elim}
 use mathlib.Core.List.{List, [], _∷_}
 use Prim.Native.Nat.{ℕ, zero, suc, _+_, _<_, _≤_}
@@ -56,20 +56,6 @@ not-of false e = refl
 pub not-is : (t : Bool) → t ≡ true → not t ≡ false
 not-is true e = refl
 not-is false e = sym e
-
--- what two tests that are alike say
-pub alike : (a b : Bool) → Bool·beq a b ≡ true → a ≡ b
-alike true true e = refl
-alike true false e = sym e
-alike false true e = e
-alike false false e = refl
-
--- and back
-pub alike-of : (a b : Bool) → a ≡ b → Bool·beq a b ≡ true
-alike-of true true e = refl
-alike-of true false e = sym e
-alike-of false true e = e
-alike-of false false e = refl
 
 -- ---- the first number of which a test holds
 

@@ -1,7 +1,7 @@
 -- Laws of the folds.
 -- Assumes nothing.
 use mathlib.Core.Path.{_≡_, refl, ap, _∙_, sym, subst}
-use mathlib.Core.Bool.{Bool, true, false, cond, _&&_, and-false}
+use mathlib.Core.Bool.{Bool, true, false, cond, _&&_, Bool·beq, and-false}
 use mathlib.Core.Logic.{⊎-elim}
 use mathlib.Core.List.{List, [], _∷_}
 use Prim.Native.Nat.{ℕ, zero, suc, _+_, _<_, _≤_}
@@ -20,6 +20,20 @@ and-left false b e = e
 pub and-right : (a b : Bool) → a && b ≡ true → b ≡ true
 and-right true b e = e
 and-right false b e = cc
+
+-- what two tests that are alike say
+pub alike : (a b : Bool) → Bool·beq a b ≡ true → a ≡ b
+alike true true e = refl
+alike true false e = sym e
+alike false true e = e
+alike false false e = refl
+
+-- and back
+pub alike-of : (a b : Bool) → a ≡ b → Bool·beq a b ≡ true
+alike-of true true e = refl
+alike-of true false e = sym e
+alike-of false true e = e
+alike-of false false e = refl
 
 -- ---- a test of every number below a bound
 

@@ -52,7 +52,7 @@ pub fn rows_sound(objects: &[Object]) -> bool
 pub fn sound(b: Block, objects: &[Object]) -> bool
     ensures { λ r. ⌜ r ≡ soundTables (tablesOf b (now (objects .entry))) ⌝ }
 {
-    block::sound(b) & rows_sound(objects)
+    soundness::sound(b) & rows_sound(objects)
 }
 
 // A copy of row i, and of the dead row past the end.

@@ -205,7 +205,7 @@ pub fn take(b: Block, fine: bool, row: Object, step: Step) -> Taken
     if !fine {
         return refuse(b, row, 3);
     }
-    if !block::sound(b) {
+    if !soundness::sound(b) {
         return refuse(b, row, 3);
     }
     act(b, row, step)

@@ -5,14 +5,11 @@ use Rattle.sets.proofs.Sets.{size-le}
 use Rattle.block.proofs.completes.Statement.{statement}
 use Rattle.block.proofs.completes.Tie as tie
 
-live-requires : tie.Need-live-requires
-live-requires c κs = search needs
-
 part-requires : tie.Need-part-requires
 part-requires c κs = search needs
 
 returns : tie.Need-returns
-returns c = rw (eq-eqb _ _ (c .before .before .if1 .taken), ← c .before .live .ensures) (c .part .ensures)
+returns c = rw (eq-eqb _ _ (c .before .if1 .taken)) (c .part .ensures)
 
 size-requires : tie.Need-size-requires
 size-requires c κs = search needs
@@ -29,4 +26,4 @@ returns-2 c = rw (ne-eqb _ _ (c .before .before .if1 .left), c .before .size .en
 pub completes-spec : {M : Type 1} → statement M
 completes-spec =
     tie.close
-    (tie.spec live-requires part-requires returns size-requires mul-result cast-result returns-2)
+    (tie.spec part-requires returns size-requires mul-result cast-result returns-2)

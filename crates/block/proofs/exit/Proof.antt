@@ -1,4 +1,5 @@
 use mathlib.Core.Path.{_∙_, sym}
+use native.Mathlib.Omega.{arith}
 use borrow.Author.Needs.{needs}
 use Rattle.block.proofs.Steps.{exit-refused, exit-completes, exit-alone}
 use Rattle.block.proofs.exit.Statement.{statement}
@@ -16,8 +17,14 @@ without-requires c κs = search needs
 opened-requires : tie.Need-opened-requires
 opened-requires c κs = search needs
 
-barrier-row-requires : tie.Need-barrier-row-requires
-barrier-row-requires c κs = search needs
+cast-r : tie.Need-cast-r
+cast-r c = search needs
+
+mul-r : tie.Need-mul-r
+mul-r c = omega arith
+
+element-copy-out-r : tie.Need-element-copy-out-r
+element-copy-out-r c = omega arith
 
 complete-requires : tie.Need-complete-requires
 complete-requires c κs = search needs
@@ -27,8 +34,8 @@ returns-2 c =
     let o = c .before .before .before in
     let e = o .before .before in
     c .complete .ensures
-    ∙ exit-completes _ _ _ (o .before .without .ensures) (sym (e .before .warp-refusal .ensures) ∙ e .if1 .left) _ _ (o .opened .ensures)
-    (c .before .barrier-row .ensures) (c .before .before .if2 .taken)
+    ∙ exit-completes _ _ _ (o .before .without .ensures) (sym (e .before .warp-refusal .ensures) ∙ e .if1 .left) _ (o .opened .ensures)
+    (c .before .before .if2 .taken)
 
 returns-3 : tie.Need-returns-3
 returns-3 c =
@@ -44,7 +51,9 @@ exit-spec =
     returns
     without-requires
     opened-requires
-    barrier-row-requires
+    cast-r
+    mul-r
+    element-copy-out-r
     complete-requires
     returns-2
     returns-3)

@@ -1,5 +1,5 @@
-use mathlib.Core.Path.{_≡_, refl, ap, _∙_}
-use mathlib.Core.Bool.{Bool, not, _&&_}
+use mathlib.Core.Path.{_≡_, refl, _∙_}
+use mathlib.Core.Bool.{not, _&&_}
 use Prim.Native.Nat.{_≤_, _-_}
 use native.Mathlib.Omega.{arith}
 use lib.Dec.{ltb}
@@ -29,8 +29,8 @@ mul-row c = omega arith
 element-copy-out-row : tie.Need-element-copy-out-row Inv-loop μ-loop
 element-copy-out-row c = omega arith
 
-is-exited-requires : tie.Need-is-exited-requires Inv-loop μ-loop
-is-exited-requires c κs = search needs
+is-live-requires : tie.Need-is-live-requires Inv-loop μ-loop
+is-live-requires c κs = search needs
 
 cast-set : tie.Need-cast-set Inv-loop μ-loop
 cast-set c = search needs
@@ -49,12 +49,8 @@ loop-less c = omega arith
 
 loop-again : tie.Need-loop-again Inv-loop μ-loop
 loop-again c =
-    let w = c .before .before .before .loop .w in
-    let n = c .before .before .before .before .args .t1 .warps in (
-      omega arith,
-      rw (c .before .before .before .loop .inv .1)
-          (setOf-more _ w _ (omega arith) (ap (λ (g : Bool). ltb w n && not g) (c .is-exited .ensures))),
-    )
+    let h = c .before .before .before .loop in
+    (omega arith, rw (h .inv .1) (setOf-more _ (h .w) _ (omega arith) (c .is-live .ensures)))
 
 -- the new set fits, as the set that it is
 add-set : tie.Need-add-set Inv-loop μ-loop
@@ -73,7 +69,7 @@ live-spec =
     cast-row
     mul-row
     element-copy-out-row
-    is-exited-requires
+    is-live-requires
     cast-set
     cast-set-2
     shl-set

@@ -1,4 +1,5 @@
 use mathlib.Core.Path.{_∙_, sym}
+use native.Mathlib.Omega.{arith}
 use borrow.Author.Tests.{eq-eqb, ne-eqb, le-leb, lt-leb}
 use borrow.Author.Needs.{needs}
 use Rattle.block.proofs.Steps.{warp-line, line-6, line-7, line-8, line-9, line-10, no-line}
@@ -16,15 +17,21 @@ returns-2 c =
     let e = c .before in
     line-6 _ _ _ _ (sym (e .before .warp-refusal .ensures) ∙ e .if1 .left) (le-leb _ _ (c .if2 .taken))
 
-bad-threads-requires : tie.Need-bad-threads-requires
-bad-threads-requires c κs = search needs
+mul-r : tie.Need-mul-r
+mul-r c = omega arith
+
+element-copy-out-r : tie.Need-element-copy-out-r
+element-copy-out-r c = omega arith
+
+bad-count-requires : tie.Need-bad-count-requires
+bad-count-requires c κs = search needs
 
 returns-3 : tie.Need-returns-3
 returns-3 c =
     let t = c .before in
-    let e = t .before .before in
-    line-7 _ _ _ _ (sym (e .before .warp-refusal .ensures) ∙ e .if1 .left) (lt-leb _ _ (t .before .if2 .left))
-    (sym (t .bad-threads .ensures) ∙ c .if3 .taken)
+    let e = t .before .before .before in
+    line-7 _ _ _ _ (sym (e .before .warp-refusal .ensures) ∙ e .if1 .left) (lt-leb _ _ (t .before .before .if2 .left))
+    (sym (t .bad-count .ensures) ∙ c .if3 .taken)
 
 form-number-requires : tie.Need-form-number-requires
 form-number-requires c κs = search needs
@@ -32,49 +39,44 @@ form-number-requires c κs = search needs
 returns-4 : tie.Need-returns-4
 returns-4 c =
     let t = c .before .before .before in
-    let e = t .before .before in
-    line-8 _ _ _ _ (sym (e .before .warp-refusal .ensures) ∙ e .if1 .left) (lt-leb _ _ (t .before .if2 .left))
-    (sym (t .bad-threads .ensures) ∙ c .before .before .if3 .left) (eq-eqb _ 0 (sym (c .before .form-number .ensures) ∙ c .if4 .taken))
+    let e = t .before .before .before in
+    line-8 _ _ _ _ (sym (e .before .warp-refusal .ensures) ∙ e .if1 .left) (lt-leb _ _ (t .before .before .if2 .left))
+    (sym (t .bad-count .ensures) ∙ c .before .before .if3 .left) (eq-eqb _ 0 (sym (c .before .form-number .ensures) ∙ c .if4 .taken))
 
-clashes-requires : tie.Need-clashes-requires
-clashes-requires c κs = search needs
+differs-requires : tie.Need-differs-requires
+differs-requires c κs = search needs
 
 returns-5 : tie.Need-returns-5
 returns-5 c =
     let f = c .before .before .before in
     let t = f .before .before in
-    let e = t .before .before in
-    line-9 _ _ _ _ (sym (e .before .warp-refusal .ensures) ∙ e .if1 .left) (lt-leb _ _ (t .before .if2 .left))
-    (sym (t .bad-threads .ensures) ∙ f .before .if3 .left) (ne-eqb _ 0 (λ z. c .before .before .if4 .left (f .form-number .ensures ∙ z)))
-    (sym (c .before .clashes .ensures) ∙ c .if5 .taken)
-
-barrier-row-requires : tie.Need-barrier-row-requires
-barrier-row-requires c κs = search needs
+    let e = t .before .before .before in
+    line-9 _ _ _ _ (sym (e .before .warp-refusal .ensures) ∙ e .if1 .left) (lt-leb _ _ (t .before .before .if2 .left))
+    (sym (t .bad-count .ensures) ∙ f .before .if3 .left) (ne-eqb _ 0 (λ z. c .before .before .if4 .left (f .form-number .ensures ∙ z)))
+    (sym (c .before .differs .ensures) ∙ c .if5 .taken)
 
 has-requires : tie.Need-has-requires
 has-requires c κs = search needs
 
 returns-6 : tie.Need-returns-6
 returns-6 c =
-    let r = c .before .before in
-    let l = r .before .before in
+    let l = c .before .before .before in
     let f = l .before .before in
     let t = f .before .before in
-    let e = t .before .before in
-    line-10 _ _ _ _ (sym (e .before .warp-refusal .ensures) ∙ e .if1 .left) (lt-leb _ _ (t .before .if2 .left))
-    (sym (t .bad-threads .ensures) ∙ f .before .if3 .left) (ne-eqb _ 0 (λ z. l .before .if4 .left (f .form-number .ensures ∙ z)))
-    (sym (l .clashes .ensures) ∙ r .before .if5 .left) (sym (rw (r .barrier-row .ensures) at (c .before .has .ensures)) ∙ c .if6 .taken)
+    let e = t .before .before .before in
+    line-10 _ _ _ _ (sym (e .before .warp-refusal .ensures) ∙ e .if1 .left) (lt-leb _ _ (t .before .before .if2 .left))
+    (sym (t .bad-count .ensures) ∙ f .before .if3 .left) (ne-eqb _ 0 (λ z. l .before .if4 .left (f .form-number .ensures ∙ z)))
+    (sym (l .differs .ensures) ∙ c .before .before .if5 .left) (sym (c .before .has .ensures) ∙ c .if6 .taken)
 
 returns-7 : tie.Need-returns-7
 returns-7 c =
-    let r = c .before .before in
-    let l = r .before .before in
+    let l = c .before .before .before in
     let f = l .before .before in
     let t = f .before .before in
-    let e = t .before .before in
-    no-line _ _ _ _ (sym (e .before .warp-refusal .ensures) ∙ e .if1 .left) (lt-leb _ _ (t .before .if2 .left))
-    (sym (t .bad-threads .ensures) ∙ f .before .if3 .left) (ne-eqb _ 0 (λ z. l .before .if4 .left (f .form-number .ensures ∙ z)))
-    (sym (l .clashes .ensures) ∙ r .before .if5 .left) (sym (rw (r .barrier-row .ensures) at (c .before .has .ensures)) ∙ c .if6 .left)
+    let e = t .before .before .before in
+    no-line _ _ _ _ (sym (e .before .warp-refusal .ensures) ∙ e .if1 .left) (lt-leb _ _ (t .before .before .if2 .left))
+    (sym (t .bad-count .ensures) ∙ f .before .if3 .left) (ne-eqb _ 0 (λ z. l .before .if4 .left (f .form-number .ensures ∙ z)))
+    (sym (l .differs .ensures) ∙ c .before .before .if5 .left) (sym (c .before .has .ensures) ∙ c .if6 .left)
 
 pub arrival-refusal-spec : {M : Type 1} → statement M
 arrival-refusal-spec =
@@ -83,13 +85,14 @@ arrival-refusal-spec =
     warp-refusal-requires
     returns
     returns-2
-    bad-threads-requires
+    mul-r
+    element-copy-out-r
+    bad-count-requires
     returns-3
     form-number-requires
     returns-4
-    clashes-requires
+    differs-requires
     returns-5
-    barrier-row-requires
     has-requires
     returns-6
     returns-7)

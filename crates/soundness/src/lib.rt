@@ -1,0 +1,187 @@
+// Whether the block's tables are sound: each row by itself, and the barriers' waiting sets against the warps.
+use block::BARRIER_COUNT;
+use block::Barrier;
+use block::Block;
+use block::LANE_COUNT;
+use block::MOST_WARPS;
+use block::Status;
+use block::Warp;
+ghost use mathlib.Core.Path.{_≡_};
+ghost use mathlib.Core.Bool.{true, _&&_, Bool·beq};
+ghost use Prim.Native.Nat.{_*_};
+ghost use Rattle.sets.specs.Sets.{has, size};
+ghost use Rattle.block.specs.Tables.{laneCount, waitsAt, waitsPlaced, warpSound, setsInside, waitingArrived, idleZero, activeArrived, activeCount, countOpen, allOpen, reductionWaits, plainNone, rowSound, rowsFine, agreeing, soundBlock};
+ghost use Rattle.soundness.specs.Check.{placeOf, listing};
+
+// Whether the warp waits at barrier k.
+fn waits_at(row: Warp, k: u8) -> bool
+    ensures { λ r. ⌜ r ≡ waitsAt (row .status) k ⌝ }
+{
+    let s = row.status;
+    match s {
+        Status::Ready => false,
+        Status::Waiting(at) => at == k,
+        Status::Exited => false,
+    }
+}
+
+// The barrier at which the warp waits, 0 where it waits at none.
+fn place_of(row: Warp) -> u8
+    ensures { λ r. ⌜ r ≡ placeOf (row .status) ⌝ }
+{
+    let s = row.status;
+    match s {
+        Status::Ready => 0,
+        Status::Waiting(at) => at,
+        Status::Exited => 0,
+    }
+}
+
+// Whether the warp, if it waits, waits at a barrier that there is.
+fn waits_placed(row: Warp) -> bool
+    ensures { λ r. ⌜ r ≡ waitsPlaced (row .status) ⌝ }
+{
+    let s = row.status;
+    match s {
+        Status::Ready => true,
+        Status::Waiting(at) => at < BARRIER_COUNT,
+        Status::Exited => true,
+    }
+}
+
+// Whether row w of the warps of a block of n is sound.
+fn warp_sound(n: u8, w: u8, row: Warp) -> bool
+    ensures { λ r. ⌜ r ≡ warpSound n w row ⌝ }
+{
+    ((w < n) | (block::is_ready(row) & (row.result == 0))) & waits_placed(row)
+}
+
+// Whether barrier k, of row r, and warp w agree: its waiting set has the warp exactly when the warp waits there.
+fn agree(r: Barrier, k: u8, w: u8, row: Warp) -> bool
+    ensures { λ t. ⌜ t ≡ Bool·beq (has (r .waiting) w) (waitsAt (row .status) k) ⌝ }
+{
+    sets::has(r.waiting, w) == waits_at(row, k)
+}
+
+// Whether the row, if it is idle, is all zero.
+fn idle_zero(r: Barrier) -> bool
+    ensures { λ t. ⌜ t ≡ idleZero r ⌝ }
+{
+    let f = r.form;
+    !(block::form_number(f) == 0)
+        | ((r.threads == 0) & (r.arrived == 0) & (r.waiting == 0) & (r.trues == 0))
+}
+
+// Whether the row's sets name only warps of a block of n, waiting is part of arrived, and an active row has an arrival.
+fn sets_sound(n: u8, r: Barrier) -> bool
+    ensures { λ t. ⌜ t ≡ (setsInside n r && waitingArrived r) && activeArrived r ⌝ }
+{
+    let f = r.form;
+    let inside = sets::within(n, r.arrived) & sets::within(n, r.waiting);
+    inside & sets::part(r.waiting, r.arrived) & ((block::form_number(f) == 0) | !(r.arrived == 0))
+}
+
+// Whether the row, if it is active for all threads, lacks one of live and has every arrival waiting.
+fn all_open(live: u32, r: Barrier) -> bool
+    ensures { λ t. ⌜ t ≡ allOpen live r ⌝ }
+{
+    let f = r.form;
+    (block::form_number(f) == 0)
+        | (!(r.threads == 0) | (!sets::part(live, r.arrived) & (r.waiting == r.arrived)))
+}
+
+// Whether the row, if it is active with a count, has one that a block of n warps can give and its arrivals' lanes are below it.
+fn count_sound(n: u8, r: Barrier, lanes: u32) -> bool
+    requires { ⌜ lanes ≡ laneCount * size (r .arrived) ⌝ }
+    ensures { λ t. ⌜ t ≡ activeCount n r && countOpen r ⌝ }
+{
+    let f = r.form;
+    let idle = block::form_number(f) == 0;
+    let threads = r.threads as u32;
+    let possible = (threads % LANE_COUNT == 0) & (threads <= LANE_COUNT * (n as u32));
+    (idle | ((threads == 0) | possible)) & (idle | ((threads == 0) | (lanes < threads)))
+}
+
+// Whether the row's true lanes are sound, its arrivals' lanes being given.
+fn lanes_sound(r: Barrier, lanes: u32) -> bool
+    requires { ⌜ lanes ≡ laneCount * size (r .arrived) ⌝ }
+    ensures { λ t. ⌜ t ≡ reductionWaits r && plainNone r ⌝ }
+{
+    let f = r.form;
+    let form = block::form_number(f);
+    (!(1 < form) | ((r.waiting == r.arrived) & (r.trues <= lanes)))
+        & (!(form == 1) | (r.trues == 0))
+}
+
+// Whether a barrier row is sound in a block of n warps, of which those of live have not exited.
+fn row_sound(n: u8, live: u32, r: Barrier) -> bool
+    ensures { λ t. ⌜ t ≡ rowSound n live r ⌝ }
+{
+    let f = r.form;
+    let form = block::form_number(f);
+    if form == 0 {
+        return idle_zero(r);
+    }
+    if !(sets_sound(n, r) & all_open(live, r)) {
+        return false;
+    }
+    if (form == 1) & (r.threads == 0) {
+        return r.trues == 0;
+    }
+    let lanes = LANE_COUNT * sets::size(r.arrived);
+    count_sound(n, r, lanes) & lanes_sound(r, lanes)
+}
+
+// Whether every barrier row is sound and agrees with every warp row; the first disagreement ends the check.
+// Where each warp agrees with its own place, an empty waiting set disagrees with none, and its row needs no walk.
+fn rows_agree(b: Block, alive: u32) -> bool
+    requires { ⌜ listing b ≡ true ⌝ }
+    ensures { λ r. ⌜ r ≡ rowsFine b alive && agreeing b ⌝ }
+{
+    let n = b.warps;
+    let mut ok = true;
+    let mut k: u8 = 0;
+    'rows: while k < BARRIER_COUNT {
+        let barrier = b.barriers[k as usize];
+        if !row_sound(n, alive, barrier) {
+            return false;
+        }
+        let mut w: u8 = if barrier.waiting == 0 { MOST_WARPS } else { 0 };
+        while w < MOST_WARPS {
+            let row = b.rows[w as usize];
+            ok = agree(barrier, k, w, row);
+            if !ok {
+                break 'rows;
+            }
+            w += 1;
+        }
+        k += 1;
+    }
+    ok
+}
+
+// Whether the block's tables are sound: a pass over the warps, which finds who has not exited, and one over the barriers.
+pub fn sound(b: Block) -> bool
+    ensures { λ r. ⌜ r ≡ soundBlock b ⌝ }
+{
+    let n = b.warps;
+    if !((1 <= n) & (n <= MOST_WARPS)) {
+        return false;
+    }
+    let mut alive: u32 = 0;
+    let mut w: u8 = 0;
+    while w < MOST_WARPS {
+        let row = b.rows[w as usize];
+        if !warp_sound(n, w, row) {
+            return false;
+        }
+        let k = place_of(row);
+        let barrier = b.barriers[k as usize];
+        if !agree(barrier, k, w, row) {
+            return false;
+        }
+        alive += (block::is_live(n, w, row) as u32) << (w as u32);
+        w += 1;
+    }
+    rows_agree(b, alive)
+}
