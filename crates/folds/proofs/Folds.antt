@@ -123,6 +123,14 @@ every-at [] e i = refl
 every-at (t ∷ ts) e zero = from-first t ts e
 every-at (t ∷ ts) e (suc i) = from-at t ts e i
 
+-- one test of a list fails, so not every one holds
+pub every-fails : (ts : List Bool) (i : ℕ) → getD ts i true ≡ false → false ≡ every ts
+every-fails ts i e = go (every ts) refl
+  where
+    go : (t : Bool) → every ts ≡ t → false ≡ t
+    go true q = sym e ∙ every-at ts q i
+    go false q = refl
+
 -- ---- the lowest line that holds
 
 -- the numbers of a table are not 0

@@ -1,1 +1,1 @@
-pub mod Check
+pub mod Places

@@ -7,33 +7,22 @@ use block::MOST_WARPS;
 use block::Status;
 use block::Warp;
 ghost use mathlib.Core.Path.{_≡_};
-ghost use mathlib.Core.Bool.{true, _&&_, Bool·beq};
+ghost use mathlib.Core.Bool.{_&&_, Bool·beq};
 ghost use Prim.Native.Nat.{_*_};
+ghost use lib.Dec.{eqb};
 ghost use Rattle.sets.specs.Sets.{has, size};
-ghost use Rattle.block.specs.Tables.{laneCount, waitsAt, waitsPlaced, warpSound, setsInside, waitingArrived, idleZero, activeArrived, activeCount, countOpen, allOpen, reductionWaits, plainNone, rowSound, rowsFine, agreeing, soundBlock};
-ghost use Rattle.soundness.specs.Check.{placeOf, listing};
+ghost use Rattle.block.specs.Tables.{laneCount, waitsPlaced, warpSound, setsInside, waitingArrived, idleZero, activeArrived, activeCount, countOpen, allOpen, reductionWaits, plainNone, rowSound, rowsFine, agreeing, soundBlock};
+ghost use Rattle.soundness.specs.Places.{placeOf, Listed};
 
-// Whether the warp waits at barrier k.
-fn waits_at(row: Warp, k: u8) -> bool
-    ensures { λ r. ⌜ r ≡ waitsAt (row .status) k ⌝ }
-{
-    let s = row.status;
-    match s {
-        Status::Ready => false,
-        Status::Waiting(at) => at == k,
-        Status::Exited => false,
-    }
-}
-
-// The barrier at which the warp waits, 0 where it waits at none.
+// The barrier at which the warp waits; 16, which no barrier is, where it waits at none.
 fn place_of(row: Warp) -> u8
     ensures { λ r. ⌜ r ≡ placeOf (row .status) ⌝ }
 {
     let s = row.status;
     match s {
-        Status::Ready => 0,
+        Status::Ready => BARRIER_COUNT,
         Status::Waiting(at) => at,
-        Status::Exited => 0,
+        Status::Exited => BARRIER_COUNT,
     }
 }
 
@@ -56,11 +45,11 @@ fn warp_sound(n: u8, w: u8, row: Warp) -> bool
     ((w < n) | (block::is_ready(row) & (row.result == 0))) & waits_placed(row)
 }
 
-// Whether barrier k, of row r, and warp w agree: its waiting set has the warp exactly when the warp waits there.
-fn agree(r: Barrier, k: u8, w: u8, row: Warp) -> bool
-    ensures { λ t. ⌜ t ≡ Bool·beq (has (r .waiting) w) (waitsAt (row .status) k) ⌝ }
+// Whether barrier k, of row r, and warp w agree: its waiting set has the warp exactly when that is the warp's place.
+fn agree(r: Barrier, k: u8, w: u8, place: u8) -> bool
+    ensures { λ t. ⌜ t ≡ Bool·beq (has (r .waiting) w) (eqb place k) ⌝ }
 {
-    sets::has(r.waiting, w) == waits_at(row, k)
+    sets::has(r.waiting, w) == (place == k)
 }
 
 // Whether the row, if it is idle, is all zero.
@@ -132,10 +121,9 @@ fn row_sound(n: u8, live: u32, r: Barrier) -> bool
     count_sound(n, r, lanes) & lanes_sound(r, lanes)
 }
 
-// Whether every barrier row is sound and agrees with every warp row; the first disagreement ends the check.
-// Where each warp agrees with its own place, an empty waiting set disagrees with none, and its row needs no walk.
-fn rows_agree(b: Block, alive: u32) -> bool
-    requires { ⌜ listing b ≡ true ⌝ }
+// Whether every barrier row is sound and agrees with every warp, whose places are listed; the first disagreement ends the check.
+fn rows_agree(b: Block, alive: u32, places: [u8; MOST_WARPS as usize]) -> bool
+    requires { ⌜ Listed 32 places b ⌝ }
     ensures { λ r. ⌜ r ≡ rowsFine b alive && agreeing b ⌝ }
 {
     let n = b.warps;
@@ -146,10 +134,9 @@ fn rows_agree(b: Block, alive: u32) -> bool
         if !row_sound(n, alive, barrier) {
             return false;
         }
-        let mut w: u8 = if barrier.waiting == 0 { MOST_WARPS } else { 0 };
+        let mut w: u8 = 0;
         while w < MOST_WARPS {
-            let row = b.rows[w as usize];
-            ok = agree(barrier, k, w, row);
+            ok = agree(barrier, k, w, places[w as usize]);
             if !ok {
                 break 'rows;
             }
@@ -160,7 +147,7 @@ fn rows_agree(b: Block, alive: u32) -> bool
     ok
 }
 
-// Whether the block's tables are sound: a pass over the warps, which finds who has not exited, and one over the barriers.
+// Whether the block's tables are sound: a pass over the warps, which lists their places and finds who has not exited, and one over the barriers.
 pub fn sound(b: Block) -> bool
     ensures { λ r. ⌜ r ≡ soundBlock b ⌝ }
 {
@@ -169,19 +156,16 @@ pub fn sound(b: Block) -> bool
         return false;
     }
     let mut alive: u32 = 0;
+    let mut places = [BARRIER_COUNT; MOST_WARPS as usize];
     let mut w: u8 = 0;
     while w < MOST_WARPS {
         let row = b.rows[w as usize];
         if !warp_sound(n, w, row) {
             return false;
         }
-        let k = place_of(row);
-        let barrier = b.barriers[k as usize];
-        if !agree(barrier, k, w, row) {
-            return false;
-        }
+        places[w as usize] = place_of(row);
         alive += (block::is_live(n, w, row) as u32) << (w as u32);
         w += 1;
     }
-    rows_agree(b, alive)
+    rows_agree(b, alive, places)
 }

@@ -5,11 +5,8 @@ use Rattle.soundness.proofs.agree.Tie as tie
 has-requires : tie.Need-has-requires
 has-requires c κs = search needs
 
-waits-at-requires : tie.Need-waits-at-requires
-waits-at-requires c κs = search needs
-
 returns : tie.Need-returns
 returns c = cc
 
 pub agree-spec : {M : Type 1} → statement M
-agree-spec = tie.close (tie.spec has-requires waits-at-requires returns)
+agree-spec = tie.close (tie.spec has-requires returns)

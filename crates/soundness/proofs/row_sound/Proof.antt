@@ -4,7 +4,7 @@ use native.Mathlib.Omega.{arith}
 use borrow.Author.Tests.{not-true, not-false}
 use borrow.Author.Needs.{needs}
 use Rattle.sets.proofs.Sets.{size-le}
-use Rattle.soundness.proofs.Tables.{idle-row, row-fails, active-row, plain-row}
+use Rattle.soundness.proofs.Rows.{idle-row, row-fails, active-row, plain-row}
 use Rattle.soundness.proofs.row_sound.Statement.{statement}
 use Rattle.soundness.proofs.row_sound.Tie as tie
 

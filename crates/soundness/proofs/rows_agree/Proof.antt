@@ -1,6 +1,5 @@
-use mathlib.Core.Path.{_≡_, refl, sym, _∙_}
+use mathlib.Core.Path.{_≡_, refl, sym, ap, _∙_}
 use mathlib.Core.Bool.{true, Bool·beq, and-false}
-use mathlib.Core.Logic.{⊎-elim}
 use Prim.Native.Nat.{_≤_, _-_}
 use native.Mathlib.Omega.{arith}
 use borrow.Author.Needs.{needs}
@@ -9,23 +8,23 @@ use Rattle.folds.specs.Folds.{all}
 use Rattle.folds.proofs.Folds.{all-none, all-more, all-fails, all-end}
 use Rattle.sets.specs.Sets.{has}
 use Rattle.block.specs.Tables.{warpAt, barrierAt, waitsAt, agreesAt, rowSound, rowsFine}
-use Rattle.soundness.proofs.Tables.{empty-agrees}
+use Rattle.soundness.proofs.Places.{at-place}
 use Rattle.soundness.proofs.rows_agree.Statement.{statement}
 use Rattle.soundness.proofs.rows_agree.Tie as tie
 
 abbrev Inv-loop : tie.InvT-loop
-Inv-loop alive b n ok₀ k barrier w₀ ok w =
+Inv-loop alive b places n ok₀ k barrier w₀ ok w =
     (w ≤ 32) × (ok ≡ true) × (all w (λ v. Bool·beq (has (barrier .waiting) v) (waitsAt (warpAt b v .status) k)) ≡ true)
 
 abbrev μ-loop : tie.MeasureT-loop
-μ-loop alive b n ok₀ k barrier w₀ ok w = 32 - w
+μ-loop alive b places n ok₀ k barrier w₀ ok w = 32 - w
 
 abbrev Inv-rows : tie.InvT-rows
-Inv-rows alive b n ok₀ k₀ ok k =
+Inv-rows alive b places n ok₀ k₀ ok k =
     (k ≤ 16) × (ok ≡ true) × (all k (λ j. rowSound n alive (barrierAt b j)) ≡ true) × (all k (λ j. all 32 (agreesAt b j)) ≡ true)
 
 abbrev μ-rows : tie.MeasureT-rows
-μ-rows alive b n ok₀ k₀ ok k = 16 - k
+μ-rows alive b places n ok₀ k₀ ok k = 16 - k
 
 rows-holds : tie.Need-rows-holds Inv-loop μ-loop Inv-rows μ-rows
 rows-holds c = (omega arith, refl, all-none _, all-none _)
@@ -50,24 +49,26 @@ returns c =
     rw (all-fails (λ j. rowSound (b .warps) (h .before .args .alive) (barrierAt b j)) 16 (h .rows .k) (omega arith) fails)
 
 loop-holds : tie.Need-loop-holds Inv-loop μ-loop Inv-rows μ-rows
-loop-holds c =
-    let h = c .before .before .before .before .before .before in (
-      ⊎-elim (λ x. omega (arith, x .1)) (λ x. omega (arith, x .1)) (c .if2 .came),
-      h .rows .inv .1,
-      ⊎-elim
-          (λ x. rw (x .1) (empty-agrees (h .before .args .t1) (h .before .pre) (h .rows .k) (x .0 .taken)))
-          (λ x. rw (x .1) (all-none _))
-          (c .if2 .came),
-    )
+loop-holds c = (omega arith, c .before .before .before .before .rows .inv .1, all-none _)
 
-mul-row : tie.Need-mul-row Inv-loop μ-loop Inv-rows μ-rows
-mul-row c = omega arith
+cast-agree : tie.Need-cast-agree Inv-loop μ-loop Inv-rows μ-rows
+cast-agree c = omega arith
 
-element-copy-out-row : tie.Need-element-copy-out-row Inv-loop μ-loop Inv-rows μ-rows
-element-copy-out-row c = omega arith
+array-read-agree : tie.Need-array-read-agree Inv-loop μ-loop Inv-rows μ-rows
+array-read-agree c = omega arith
 
 agree-requires : tie.Need-agree-requires Inv-loop μ-loop Inv-rows μ-rows
 agree-requires c κs = search needs
+
+-- what the check of barrier and warp answered
+agrees : (c : tie.After-agree Inv-loop μ-loop Inv-rows μ-rows)
+    → c .agree .result ≡ agreesAt (c .before .before .before .before .before .before .before .before .args .t1) (c .before .before .before .before .before .before .before .rows .k) (c .before .before .loop .w)
+agrees c =
+    let h = c .before .before .before .before .before .before .before in
+    let b = h .before .args .t1 in
+    let w = c .before .before .loop .w in
+    c .agree .ensures
+    ∙ ap (Bool·beq (has (barrierAt b (h .rows .k) .waiting) w)) (rw (h .before .pre w (omega arith)) (at-place (warpAt b w .status) (h .rows .k) (omega arith)))
 
 add-w : tie.Need-add-w Inv-loop μ-loop Inv-rows μ-rows
 add-w c = omega arith
@@ -77,9 +78,9 @@ loop-less c = omega arith
 
 loop-again : tie.Need-loop-again Inv-loop μ-loop Inv-rows μ-rows
 loop-again c =
-    let inv = c .before .before .before .before .before .loop .inv in
-    let same = not-false _ (c .if3 .left) in
-    (omega arith, same, all-more _ _ (inv .2) (sym (c .before .agree .ensures) ∙ same))
+    let inv = c .before .before .before .loop .inv in
+    let same = not-false _ (c .if2 .left) in
+    (omega arith, same, all-more _ _ (inv .2) (sym (agrees (c .before)) ∙ same))
 
 add-k : tie.Need-add-k Inv-loop μ-loop Inv-rows μ-rows
 add-k c = omega arith
@@ -90,10 +91,10 @@ rows-less c = omega arith
 rows-again : tie.Need-rows-again Inv-loop μ-loop Inv-rows μ-rows
 rows-again c =
     let inv = c .before .loop .inv in
-    let h = c .before .before .before .before .before .before .before .before .rows .inv in (
+    let h = c .before .before .before .before .before .before .rows .inv in (
       omega arith,
       inv .1,
-      all-more _ _ (h .2) (sym (c .before .before .before .before .before .row-sound .ensures) ∙ not-false _ (c .before .before .before .before .if1 .left)),
+      all-more _ _ (h .2) (sym (c .before .before .before .row-sound .ensures) ∙ not-false _ (c .before .before .if1 .left)),
       all-more _ _ (h .3) (all-end _ 32 _ (inv .0) (c .loop-test .left) (inv .2)),
     )
 
@@ -110,11 +111,11 @@ returns-2 c =
 
 returns-3 : tie.Need-returns-3 Inv-loop μ-loop Inv-rows μ-rows
 returns-3 c =
-    let h = c .before .before .before .before .before .before .before .before .before .before .before .before in
+    let h = c .before .before .before .before .before .before .before .before in
     let b = h .before .args .t1 in
-    let w = c .before .before .before .before .before .loop .w in
-    let other = not-true _ (c .if3 .taken) in
-    let fails = all-fails (agreesAt b (h .rows .k)) 32 w (omega arith) (sym (c .before .agree .ensures) ∙ other) in
+    let w = c .before .before .before .loop .w in
+    let other = not-true _ (c .if2 .taken) in
+    let fails = all-fails (agreesAt b (h .rows .k)) 32 w (omega arith) (sym (agrees (c .before)) ∙ other) in
     other ∙ sym (rw (all-fails (λ j. all 32 (agreesAt b j)) 16 (h .rows .k) (omega arith) fails) (and-false (rowsFine b (h .before .args .alive))))
 
 pub rows-agree-spec : {M : Type 1} → statement M
@@ -132,8 +133,8 @@ rows-agree-spec =
     row-sound-requires
     returns
     loop-holds
-    mul-row
-    element-copy-out-row
+    cast-agree
+    array-read-agree
     agree-requires
     add-w
     loop-less

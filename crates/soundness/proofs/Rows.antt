@@ -1,62 +1,16 @@
--- Laws of the check: warps and barriers that agree, and a barrier row's soundness in the order in which the check asks.
+-- A barrier row's soundness, in the order in which the check asks.
 -- Assumes nothing.
-use mathlib.Core.Path.{_≡_, refl, sym, ap, _∙_}
-use mathlib.Core.Bool.{Bool, true, false, _&&_, Bool·beq, true≢false}
-use mathlib.Core.List.{List, [], _∷_}
-use Prim.Native.Nat.{ℕ, _^_, _≤_, _<_}
-use lib.Dec.{eqb, lit<}
-use lib.ListN.{length, getD, List·getD-eq-default}
+use mathlib.Core.Path.{_≡_, refl, sym, _∙_}
+use mathlib.Core.Bool.{Bool, true, false, _&&_}
+use mathlib.Core.List.{[], _∷_}
+use Prim.Native.Nat.{ℕ, _^_}
+use lib.Dec.{eqb}
 use lib.Pow.{pow-pos}
-use borrow.Author.Tests.{ne-eqb, eq-eqb, eqb-true, lt-ltb, ltb-true}
-use Rattle.folds.specs.Folds.{all, every}
-use Rattle.folds.proofs.Folds.{and-left, and-right, alike, alike-of, all-at, all-of, every-at}
-use Rattle.sets.specs.Sets.{has}
-use Rattle.sets.proofs.Sets.{has-none}
-use Rattle.block.specs.declared.Status.{Status}
-use Rattle.block.specs.declared.Status.the-variants.{Ready, Waiting, Exited}
-use Rattle.block.specs.Tables.{mostWarps, barrierCount, warpAt, barrierAt, waitsAt, spareFresh, waitsPlaced, agreesAt, warpSound}
-use Rattle.soundness.specs.Check.{placeOf, listing}
+use borrow.Author.Tests.{ne-eqb, eqb-true, lt-ltb}
+use Rattle.folds.specs.Folds.{every}
+use Rattle.folds.proofs.Folds.{and-left, and-right, every-at, every-fails}
 use Rattle.block.specs.Tables.{formNumber, setsInside, waitingArrived, idleZero, activeArrived, activeCount, countOpen, allOpen, reductionWaits, plainNone, rowSound}
-use Rattle.block.specs.declared.Warp.{Warp}
 use Rattle.block.specs.declared.Barrier.{Barrier}
-use Rattle.block.specs.declared.Block.{Block}
-
--- one test of a list fails, so not every one holds
-pub every-fails : (ts : List Bool) (i : ℕ) → getD ts i true ≡ false → false ≡ every ts
-every-fails ts i e = go (every ts) refl
-  where
-    go : (t : Bool) → every ts ≡ t → false ≡ t
-    go true q = sym e ∙ every-at ts q i
-    go false q = refl
-
--- ---- a warp's row
-
--- a warp whose row is sound waits, if it does, at a barrier that there is
-pub placed : (n w : ℕ) (r : Warp) → warpSound n w r ≡ true → placeOf (r .status) < barrierCount
-placed n w r e = at (r .status) (and-right (spareFresh n w r) (waitsPlaced (r .status)) e)
-  where
-    at : (s : Status) → waitsPlaced s ≡ true → placeOf s < barrierCount
-    at Ready q = lit< tt
-    at (Waiting k) q = ltb-true k barrierCount q
-    at Exited q = lit< tt
-
--- a warp that agrees with its own place waits at no barrier whose waiting set lacks it
-not-there : (b : Block) (w k : ℕ) (s : Status) → has (barrierAt b k .waiting) w ≡ false
-    → Bool·beq (has (barrierAt b (placeOf s) .waiting) w) (waitsAt s (placeOf s)) ≡ true → waitsAt s k ≡ false
-not-there b w k Ready z e = refl
-not-there b w k (Waiting at) z e =
-    ne-eqb at k (λ q. true≢false (sym (eq-eqb at at refl) ∙ sym (alike _ _ e) ∙ ap (λ (j : ℕ). has (barrierAt b j .waiting) w) q ∙ z))
-not-there b w k Exited z e = refl
-
--- where every warp agrees with its own place, a row with an empty waiting set agrees with every warp
-pub empty-agrees : (b : Block) → listing b ≡ true → (k : ℕ) → barrierAt b k .waiting ≡ 0 → all mostWarps (λ w. agreesAt b k w) ≡ true
-empty-agrees b e k z =
-    all-of _ mostWarps (λ w l. alike-of _ _ (none w ∙ sym (not-there b w k (warpAt b w .status) (none w) (all-at _ mostWarps w l e))))
-  where
-    none : (w : ℕ) → has (barrierAt b k .waiting) w ≡ false
-    none w = rw z (has-none w)
-
--- ---- a barrier row
 
 module _ (n live : ℕ) (r : Barrier) where
   -- a row that is all zero is sound if it is idle
