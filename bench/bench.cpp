@@ -40,9 +40,16 @@ bool add(Trace &trace, const Bytes &step) {
 std::uint8_t low(std::size_t number) { return static_cast<std::uint8_t>(number); }
 
 // The shortest steps are used, so that as many as can be fit into a trace:
-// sync for all (3 bytes), arrive on an object (8), test by parity (5).
+// sync for all (3 bytes), arrive on an object (8), test by parity (5). Only held has longer ones:
+// sync with a count (5), pending count (10).
 
 Bytes sync_all(std::size_t warp, std::size_t barrier) { return {0x02, low(warp), low(barrier)}; }
+
+Bytes sync(std::size_t warp, std::size_t barrier, std::size_t threads) {
+  return {0x03, low(warp), low(barrier), low(threads), low(threads >> 8)};
+}
+
+Bytes pending_count(std::size_t warp) { return {0x12, low(warp), 1, 0, 0, 0, 0, 0, 0, 0}; }
 
 Bytes count_step(std::size_t kind, std::size_t object) {
   return {low(kind), 0, low(8 * object), low(8 * object >> 8), 1, 0, 0, 0};
@@ -61,6 +68,15 @@ Trace barriers(std::size_t steps) {
   Trace trace{{32}, 0};
   for (std::size_t i = 0; i < steps; ++i)
     if (!add(trace, sync_all(i % 32, i / 32 % 16))) break;
+  return trace;
+}
+
+// Sixteen warps wait, each at a barrier of its own that needs two, while another asks for pending counts.
+Trace held(std::size_t steps) {
+  Trace trace{{17}, 0};
+  for (std::size_t w = 0; w < 16; ++w) add(trace, sync(w, w, 64));
+  while (trace.steps < steps)
+    if (!add(trace, pending_count(16))) break;
   return trace;
 }
 
@@ -160,7 +176,7 @@ int main(int argc, char **argv) {
   const int runs = argc == 2 && argv[1] == std::string_view("short") ? few_runs : all_runs;
   const std::vector<Check> checks = {checker, by_rows, by_masks};
   const std::pair<const char *, Trace (*)(std::size_t)> workloads[] = {
-      {"barriers", barriers}, {"objects", objects}, {"mixed", mixed}};
+      {"barriers", barriers}, {"held", held}, {"objects", objects}, {"mixed", mixed}};
   print_peaks(mixed(lengths[2]));
   std::printf(
       "nanoseconds a step, best of %d; steps as far as %zu bytes hold them\n"
