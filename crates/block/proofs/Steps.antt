@@ -1,7 +1,7 @@
 -- Laws of the steps: which line refuses an arrival, and the ends of an arrival and of an exit.
 -- Assumes nothing.
 use mathlib.Core.Path.{_≡_, refl, sym, ap, subst, _∙_}
-use mathlib.Core.Bool.{Bool, true, false, not, cond, _&&_, _||_}
+use mathlib.Core.Bool.{Bool, true, false, cond, _&&_}
 use mathlib.Core.List.{[], _∷_}
 use Prim.Native.Nat.{ℕ, _<_, _≤_}
 use lib.Dec.{eqb, ltb}
@@ -11,30 +11,13 @@ use borrow.Author.Tests.{ne-eqb, lt-ltb, le-ltb, ltb-false, leb-false}
 use Rattle.folds.specs.Folds.{lowest}
 use Rattle.folds.proofs.Folds.{none-at}
 use Rattle.block.specs.Tables.{barrierCount, isIdle, barrierAt, liveOf}
-use Rattle.block.specs.Steps.{formOf, noSuchWarp, notReady, noSuchBarrier, badThreads, badSelector, clashes, alreadyArrived, warpRefusal, arrivalRefusal, arrivedRow, completes, completed, goesOn, refused, arrival, without, opened, exit}
-use Rattle.block.specs.declared.Form.the-variants.{Idle, Popc, And, Or}
+use Rattle.block.specs.Steps.{noSuchWarp, notReady, noSuchBarrier, badThreads, clashes, alreadyArrived, warpRefusal, arrivalRefusal, arrivedRow, completes, completed, goesOn, refused, arrival, without, opened, exit}
 use Rattle.block.specs.declared.Verdict.the-variants.{Accepted}
 use Rattle.block.specs.declared.Barrier.{Barrier}
 use Rattle.block.specs.declared.Block.{Block}
 use Rattle.block.specs.declared.Call.{Call}
 
 -- ---- selectors
-
-forms : (a b c d e f : Bool) → isIdle (cond (a || d) Popc (cond (b || e) And (cond (c || f) Or Idle))) ≡ not (a || (b || (c || (d || (e || f)))))
-forms true b c d e f = refl
-forms false true c true e f = refl
-forms false true c false e f = refl
-forms false false true true e f = refl
-forms false false true false true f = refl
-forms false false true false false f = refl
-forms false false false true e f = refl
-forms false false false false true f = refl
-forms false false false false false true = refl
-forms false false false false false false = refl
-
--- the bad selectors are those that name no form
-pub selector-form : (s : ℕ) → isIdle (formOf s) ≡ badSelector s
-selector-form s = forms (eqb s 0) (eqb s 1) (eqb s 2) (eqb s 4) (eqb s 5) (eqb s 6)
 
 -- ---- which line refuses an arrival
 

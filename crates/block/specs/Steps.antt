@@ -2,7 +2,7 @@
 -- Assumes nothing.
 use mathlib.Core.Bool.{Bool, true, false, not, cond, _&&_, _||_}
 use mathlib.Core.List.{List, [], _∷_}
-use Prim.Native.Nat.{ℕ, _+_, _-_, _*_, _%_, _^_}
+use Prim.Native.Nat.{ℕ, _+_, _*_, _%_}
 use lib.Dec.{eqb, leb, ltb}
 use lib.ListN.{set}
 use Rattle.folds.specs.Folds.{first, every, lowest, firsts}
@@ -21,24 +21,6 @@ use Rattle.block.specs.declared.Verdict.the-variants.{Refused, Accepted}
 use Rattle.block.specs.declared.Turn.{Turn}
 
 -- ---- what the steps ask for
-
--- the form that a selector names, 0 popc, 1 and, 2 or, 4 more complements; Idle where it names none
-abbrev pub formOf : ℕ → Form
-formOf s = cond (eqb s 0 || eqb s 4) Popc (cond (eqb s 1 || eqb s 5) And (cond (eqb s 2 || eqb s 6) Or Idle))
-
--- the true lanes of a mask, which the selectors from 4 complement
-abbrev pub lanesOf : ℕ → ℕ → ℕ
-lanesOf s mask = size (cond (ltb 3 s) (2 ^ 32 - 1 - mask) mask)
-
--- sync and red wait; arrive doesn't
-abbrev pub syncCall : Threads → Call
-syncCall t = record { form = Plain; threads = t; waits = true; lanes = 0 }
-
-abbrev pub arriveCall : ℕ → Call
-arriveCall t = record { form = Plain; threads = Given t; waits = false; lanes = 0 }
-
-abbrev pub redCall : ℕ → Threads → ℕ → Call
-redCall s t mask = record { form = formOf s; threads = t; waits = true; lanes = lanesOf s mask }
 
 -- a row's thread count: 0 means all
 abbrev pub countOf : Threads → ℕ

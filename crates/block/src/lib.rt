@@ -8,7 +8,7 @@ ghost use Prim.Native.Nat.{_<_};
 ghost use lib.Dec.{ltb};
 ghost use Rattle.sets.specs.Sets.{has};
 ghost use Rattle.block.specs.Tables.{barrierCount, formNumber, isReady, isExited, liveOf, freshBlock};
-ghost use Rattle.block.specs.Steps.{syncCall, arriveCall, redCall, warpRefusal, completes as completesOf};
+ghost use Rattle.block.specs.Steps.{warpRefusal, completes as completesOf};
 ghost use Rattle.block.specs.Steps.{resultOf, releasedWarp, releasedWarps, completed, goesOn, arrival as arrivalOf, without as withoutOf, opened as openedOf, exit as exitOf};
 
 // A block has at most 32 warps.
@@ -159,44 +159,6 @@ pub fn live(b: Block) -> u32
         w += 1;
     }
     set
-}
-
-// What a sync asks for.
-pub fn sync_call(threads: Threads) -> Call
-    ensures { λ r. ⌜ r ≡ syncCall threads ⌝ }
-{
-    Call {
-        form: Form::Plain,
-        threads,
-        waits: true,
-        lanes: 0,
-    }
-}
-
-// What an arrive asks for.
-pub fn arrive_call(threads: u16) -> Call
-    ensures { λ r. ⌜ r ≡ arriveCall threads ⌝ }
-{
-    Call {
-        form: Form::Plain,
-        threads: Threads::Given(threads),
-        waits: false,
-        lanes: 0,
-    }
-}
-
-// What a red asks for.
-pub fn red_call(selector: u8, threads: Threads, mask: u32) -> Call
-    ensures { λ r. ⌜ r ≡ redCall selector threads mask ⌝ }
-{
-    let form = rows::form_of(selector);
-    let lanes = rows::lanes_of(selector, mask);
-    Call {
-        form,
-        threads,
-        waits: true,
-        lanes,
-    }
 }
 
 // The lowest of lines 4 and 5 that applies to a step of warp w, and 0 if none does.

@@ -12,7 +12,7 @@ ghost use mathlib.Core.Bool.{cond};
 ghost use Prim.Native.Nat.{_+_};
 ghost use Rattle.sets.specs.Sets.{put};
 ghost use Rattle.block.specs.Tables.{freshWarp, idle};
-ghost use Rattle.block.specs.Steps.{formOf, lanesOf, countOf, upToLargest, arrivedRow, resultOf};
+ghost use Rattle.block.specs.Steps.{countOf, upToLargest, arrivedRow, resultOf};
 
 // A ready warp's row, with result 0.
 pub fn fresh_warp() -> Warp
@@ -34,33 +34,6 @@ pub fn idle_row() -> Barrier
         arrived: 0,
         waiting: 0,
         trues: 0,
-    }
-}
-
-// The form that a selector names, Idle where it names none.
-pub fn form_of(selector: u8) -> Form
-    ensures { λ r. ⌜ r ≡ formOf selector ⌝ }
-{
-    if (selector == 0) | (selector == 4) {
-        return Form::Popc;
-    }
-    if (selector == 1) | (selector == 5) {
-        return Form::And;
-    }
-    if (selector == 2) | (selector == 6) {
-        return Form::Or;
-    }
-    Form::Idle
-}
-
-// The true lanes of a mask, which the selectors from 4 complement.
-pub fn lanes_of(selector: u8, mask: u32) -> u32
-    ensures { λ r. ⌜ r ≡ lanesOf selector mask ⌝ }
-{
-    if 3 < selector {
-        sets::size(!mask)
-    } else {
-        sets::size(mask)
     }
 }
 

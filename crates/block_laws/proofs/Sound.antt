@@ -8,7 +8,7 @@ use lib.Dec.{eqb, ltb}
 use lib.ListN.{set, length-set, length-replicate, getD-replicate}
 use Rattle.sets.proofs.Sets.{has-none, size-le}
 use Rattle.block.specs.Tables.{mostWarps, barrierCount, freshWarp, idle, warpAt, barrierAt, isPlain, soundBlock, freshBlock}
-use Rattle.block.specs.Steps.{formOf}
+use Rattle.calls.specs.Calls.{formOf}
 use Rattle.block.specs.declared.Form.the-variants.{Idle, Popc, And, Or}
 use Rattle.block.specs.declared.Warp.{Warp}
 use Rattle.block.specs.declared.Barrier.{Barrier}

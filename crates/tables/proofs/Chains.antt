@@ -22,7 +22,7 @@ use Rattle.block.specs.declared.Turn.{Turn}
 use Rattle.block.specs.declared.Verdict.the-variants.{Accepted}
 use Rattle.block.specs.Tables.{isIdle}
 use Rattle.block.specs.Steps as block
-use Rattle.block.proofs.Steps.{selector-form}
+use Rattle.calls.proofs.Calls.{selector-form}
 use Rattle.tables.specs.declared.Taken.{Taken}
 use Rattle.tables.specs.Tables.{View}
 use Rattle.tables.specs.Refusals.{callOf, actOf, selectorOf, refusal}

@@ -19,17 +19,18 @@ use Rattle.object.specs.Row as row
 use Rattle.block.specs.declared.Threads.the-variants.{All, Given}
 use Rattle.block.specs.declared.Call.{Call}
 use Rattle.block.specs.Steps as block
+use Rattle.calls.specs.Calls as calls
 use Rattle.tables.specs.Tables.{View, slotOf}
 
 -- ---- what the steps ask of the block and of an object
 
 -- a named-barrier step as the arrival that it is
 abbrev pub callOf : BarrierStep → Call
-callOf barrier.SyncAll = block.syncCall All
-callOf (barrier.Sync t) = block.syncCall (Given t)
-callOf (barrier.Arrive t) = block.arriveCall t
-callOf (barrier.RedAll s m) = block.redCall s All m
-callOf (barrier.Red s t m) = block.redCall s (Given t) m
+callOf barrier.SyncAll = calls.syncCall All
+callOf (barrier.Sync t) = calls.syncCall (Given t)
+callOf (barrier.Arrive t) = calls.arriveCall t
+callOf (barrier.RedAll s m) = calls.redCall s All m
+callOf (barrier.Red s t m) = calls.redCall s (Given t) m
 
 -- an object step as the act that it is: arrive and drop over count, drop, expectation and noComplete; with an attached expect the count is 1
 abbrev pub actOf : ObjectStep → Act

@@ -38,15 +38,15 @@ fn call_of(b: BarrierStep) -> Call
     ensures { λ r. ⌜ r ≡ callOf b ⌝ }
 {
     match b {
-        BarrierStep::SyncAll => block::sync_call(Threads::All),
-        BarrierStep::Sync(t) => block::sync_call(Threads::Given(t)),
-        BarrierStep::Arrive(t) => block::arrive_call(t),
-        BarrierStep::RedAll { selector, mask } => block::red_call(selector, Threads::All, mask),
+        BarrierStep::SyncAll => calls::sync_call(Threads::All),
+        BarrierStep::Sync(t) => calls::sync_call(Threads::Given(t)),
+        BarrierStep::Arrive(t) => calls::arrive_call(t),
+        BarrierStep::RedAll { selector, mask } => calls::red_call(selector, Threads::All, mask),
         BarrierStep::Red {
             selector,
             threads,
             mask,
-        } => block::red_call(selector, Threads::Given(threads), mask),
+        } => calls::red_call(selector, Threads::Given(threads), mask),
     }
 }
 

@@ -1,6 +1,6 @@
 use borrow.Author.Needs.{needs}
-use Rattle.block.proofs.red_call.Statement.{statement}
-use Rattle.block.proofs.red_call.Tie as tie
+use Rattle.calls.proofs.red_call.Statement.{statement}
+use Rattle.calls.proofs.red_call.Tie as tie
 
 form-of-requires : tie.Need-form-of-requires
 form-of-requires c κs = search needs

@@ -1,7 +1,7 @@
 use borrow.Author.Tests.{lt-ltb, le-ltb}
 use borrow.Author.Needs.{needs}
-use Rattle.block.proofs.rows.lanes_of.Statement.{statement}
-use Rattle.block.proofs.rows.lanes_of.Tie as tie
+use Rattle.calls.proofs.lanes_of.Statement.{statement}
+use Rattle.calls.proofs.lanes_of.Tie as tie
 
 size-requires : tie.Need-size-requires
 size-requires c κs = search needs

@@ -1,5 +1,5 @@
-use Rattle.block.proofs.rows.form_of.Statement.{statement}
-use Rattle.block.proofs.rows.form_of.Tie as tie
+use Rattle.calls.proofs.form_of.Statement.{statement}
+use Rattle.calls.proofs.form_of.Tie as tie
 
 returns : tie.Need-returns
 returns c = rw (c .if1 .taken)
