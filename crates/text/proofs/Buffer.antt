@@ -13,11 +13,12 @@ use lib.Seq.{sets}
 use Rattle.fields.specs.Num.{laid}
 use Rattle.fields.proofs.Num.{laid-fits, laid-short}
 use Rattle.lines.proofs.Stores.{sets-append}
-use Rattle.text.specs.declared.Turned.{Turned}
-use Rattle.text.specs.declared.Next.{Next}
+use Rattle.runs.specs.declared.Turned.{Turned}
+use Rattle.runs.specs.declared.Next.{Next}
 use Rattle.text.specs.declared.Laying.{Laying}
 use Rattle.text.specs.Text.{traceRefusal, textOf}
-use Rattle.text.specs.Turns.{startOf, turnOf, lineIn, goesOn, endIn}
+use Rattle.runs.specs.Runs.{startOf, turnOf}
+use Rattle.text.specs.Turns.{lineIn, goesOn, endIn}
 use Rattle.text.specs.declared.Laid.the-variants.{Length, Short}
 use Rattle.text.specs.Buffer.{answerOf, turnLaid, Lays}
 use Rattle.text.proofs.Turns.{leftTo, left-turn, turn-moves, left-start}

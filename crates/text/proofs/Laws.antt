@@ -16,7 +16,7 @@ use Rattle.tables.specs.Effect.{taken}
 use Rattle.lines.specs.Lines.{decimal, lineOf, endOf}
 use Rattle.lines.proofs.Lines.{line-most, end-most}
 use Rattle.text.specs.Text.{answersFrom, answers, traceRefusal, linesOf, acceptedIn, refusedIn, textOf, roomFor}
-use Rattle.text.specs.Turns.{startOf}
+use Rattle.runs.specs.Runs.{startOf}
 use Rattle.text.specs.Laws.{MoreChangesNothing, TurnByTurn, RoomIsEnough, WholeCase}
 use Rattle.text.proofs.Text.{text-answered, text-refused, enough, answers-most, lines-most}
 use Rattle.text.proofs.Turns.{begins, text-from, left-start}

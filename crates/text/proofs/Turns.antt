@@ -6,7 +6,7 @@ use mathlib.Core.List.{List, [], _∷_, _++_, append-assoc}
 use Prim.Native.Nat.{ℕ, zero, suc, _+_, _-_, _≤_, _<_}
 use native.Mathlib.Omega.{arith}
 use native.Mathlib.Nat.{add-zero, zero-add}
-use borrow.Author.Tests.{le-leb, lt-leb, ne-eqb, eqb-false, ltb-false}
+use borrow.Author.Tests.{ne-eqb, eqb-false, ltb-false}
 use lib.Dec.{eqb, ltb}
 use lib.ListN.{length, getD}
 use Rattle.folds.specs.Folds.{lowest}
@@ -24,27 +24,12 @@ use Rattle.tables.specs.Tables.{Tables, freshTables, tallied, counted}
 use Rattle.tables.specs.Effect.{verdict, after}
 use Rattle.lent.specs.Entries.{stateIn, freshRefusal}
 use Rattle.lines.specs.Lines.{lineOf, endOf}
-use Rattle.text.specs.declared.Run.{Run}
-use Rattle.text.specs.declared.Next.the-variants.{Finished}
+use Rattle.runs.specs.declared.Run.{Run}
 use Rattle.text.specs.Text.{mostBytes, answersFrom, answers, traceRefusal, linesOf, acceptedIn, refusedIn, textOf}
-use Rattle.text.specs.Turns.{startOf, numberIn, stepped, stopped, turnOf, lineIn, goesOn, endIn, textFrom}
+use Rattle.runs.specs.Runs.{startOf, numberIn, stepped, stopped, turnOf}
+use Rattle.text.specs.Turns.{lineIn, goesOn, endIn, textFrom}
+use Rattle.runs.proofs.Runs.{turn-end, turn-stop, turn-step}
 use Rattle.text.proofs.Text.{text-answered, moves, at-place, answers-end, answers-stop, answers-step, enough, answers-most}
-
--- ---- a turn, case by case
-
-module _ (s : List ℕ) (x : Run) where
-  pub turn-end : length s ≤ x .cursor .at → turnOf s x ≡ record { next = Finished; run = x }
-  unfolding turnOf
-  turn-end h = rw (le-leb (length s) (x .cursor .at) h)
-
-  module _ (more : x .cursor .at < length s) where
-    pub turn-stop : (n : ℕ) → readAt s (x .cursor .at) ≡ read.Refused n → turnOf s x ≡ stopped x n
-    unfolding turnOf
-    turn-stop n e = rw (lt-leb (length s) (x .cursor .at) more, e)
-
-    pub turn-step : (st : Step) (c : Cursor) → readAt s (x .cursor .at) ≡ read.Found st c → turnOf s x ≡ stepped x st c
-    unfolding turnOf
-    turn-step st c e = rw (lt-leb (length s) (x .cursor .at) more, e)
 
 -- ---- the text that is left
 

@@ -11,7 +11,8 @@ use Rattle.text.specs.declared.Laid.{Laid}
 use Rattle.text.specs.declared.Laid.the-variants.{Length, Short}
 use Rattle.text.specs.declared.Laying.{Laying}
 use Rattle.text.specs.Text.{textOf}
-use Rattle.text.specs.Turns.{turnOf, lineIn, goesOn}
+use Rattle.runs.specs.Runs.{turnOf}
+use Rattle.text.specs.Turns.{lineIn, goesOn}
 
 -- the length of bytes that fit into a buffer, or that it is too short
 abbrev pub answerOf : List ℕ → List ℕ → Laid

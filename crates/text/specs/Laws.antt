@@ -6,7 +6,8 @@ use Prim.Native.Nat.{ℕ, _≤_}
 use lib.ListN.{length, getD}
 use Rattle.tables.specs.Tables.{freshTables}
 use Rattle.text.specs.Text.{answersFrom, answers, traceRefusal, textOf, roomFor}
-use Rattle.text.specs.Turns.{startOf, textFrom}
+use Rattle.runs.specs.Runs.{startOf}
+use Rattle.text.specs.Turns.{textFrom}
 
 -- as many steps as there are bytes are enough: more that may be read change nothing
 abbrev pub MoreChangesNothing : Type 0

@@ -1,11 +1,8 @@
 // The text of a whole trace, laid into a buffer that the caller lends.
 use block::Verdict;
-use lent::Owned;
 use lines::MOST_LINE;
-use steps::Cursor;
-use steps::Read;
-use steps::Step;
-use tables::Tally;
+use runs::Next;
+use runs::Run;
 ghost use mathlib.Core.Path.{_≡_};
 ghost use Prim.Native.Nat.{_+_, _<_};
 ghost use lib.Dec.{leb};
@@ -13,7 +10,8 @@ ghost use lib.ListN.{length, getD};
 ghost use Rattle.fields.specs.Num.{laid};
 ghost use Rattle.lines.specs.Lines.{mostLine};
 ghost use Rattle.text.specs.Text.{traceRefusal, textOf, roomFor};
-ghost use Rattle.text.specs.Turns.{startOf, numberIn, stepped, stopped, turnOf, lineIn};
+ghost use Rattle.runs.specs.Runs.{turnOf};
+ghost use Rattle.text.specs.Turns.{lineIn};
 ghost use Rattle.text.specs.Buffer.{turnLaid, Lays, answerOf};
 
 // A trace has at most 65,536 bytes.
@@ -21,26 +19,6 @@ const MOST_BYTES: usize = 65536;
 
 // A block has at most 32 warps.
 const MOST_WARPS: u8 = 32;
-
-// A run over a trace, between two steps: the tables, the place of the next step, and how many lines were accepted and refused.
-pub struct Run {
-    pub state: Owned,
-    pub cursor: Cursor,
-    pub lines: Tally,
-}
-
-// What a turn says: a line, its number with its verdict, after which the run goes on or stops; or that the trace is finished.
-pub enum Next {
-    Goes(u64, Verdict),
-    Stops(u64, Verdict),
-    Finished,
-}
-
-// A turn of a run: what it says, and the run after it.
-pub struct Turned {
-    pub next: Next,
-    pub run: Run,
-}
 
 // A text that is being laid: whether the run goes on, the place after what is laid, and the run.
 struct Laying {
@@ -55,81 +33,6 @@ pub enum Laid {
     Short,
 }
 
-// The run at its start, for so many warps.
-pub fn start(warps: u8) -> Run
-    ensures { λ r. ⌜ r ≡ startOf warps ⌝ }
-{
-    let t = lent::fresh_owned(warps);
-    let state = t.state;
-    Run {
-        state,
-        cursor: Cursor { at: 1 },
-        lines: Tally {
-            accepted: 0,
-            refused: 0,
-        },
-    }
-}
-
-// The number of the next line.
-fn number_in(lines: Tally) -> u64
-    ensures { λ r. ⌜ r ≡ numberIn lines ⌝ }
-{
-    (lines.accepted as u64) + (lines.refused as u64) + 1
-}
-
-// A turn whose step was read: the step is taken.
-fn go_on(run: Run, step: Step, next: Cursor) -> Turned
-    ensures { λ r. ⌜ r ≡ stepped run step next ⌝ }
-{
-    let t = lent::step_owned(run.state, step);
-    let verdict = t.verdict;
-    let state = t.state;
-    Turned {
-        next: Next::Goes(number_in(run.lines), verdict),
-        run: Run {
-            state,
-            cursor: next,
-            lines: tables::add(run.lines, verdict),
-        },
-    }
-}
-
-// A turn at which reading stops, with 1 or 2.
-fn stop(run: Run, n: u8) -> Turned
-    ensures { λ r. ⌜ r ≡ stopped run n ⌝ }
-{
-    let verdict = Verdict::Refused(n);
-    let state = run.state;
-    let cursor = run.cursor;
-    Turned {
-        next: Next::Stops(number_in(run.lines), verdict),
-        run: Run {
-            state,
-            cursor,
-            lines: tables::add(run.lines, verdict),
-        },
-    }
-}
-
-// One turn: the step at the run's place is read and taken.
-pub fn turn(run: Run, trace: &[u8]) -> Turned
-    ensures { λ r. ⌜ r ≡ turnOf (now (trace .entry)) run ⌝ }
-{
-    let cursor = run.cursor;
-    let at = cursor.at;
-    if trace.len() <= at {
-        return Turned {
-            next: Next::Finished,
-            run,
-        };
-    }
-    match cursor.read(trace) {
-        Read::Found(step, next) => go_on(run, step, next),
-        Read::Refused(n) => stop(run, n),
-    }
-}
-
 // One turn, and its line laid where it fits.
 fn lay_turn(trace: &[u8], out: &mut [u8], l: Laying) -> Laying
     requires { ⌜ l .at + mostLine < 18446744073709551616 ⌝ }
@@ -137,7 +40,7 @@ fn lay_turn(trace: &[u8], out: &mut [u8], l: Laying) -> Laying
 {
     let at = l.at;
     let before = l.run;
-    let t = turn(before, trace);
+    let t = runs::turn(before, trace);
     let next = t.next;
     let run = t.run;
     match next {
@@ -167,7 +70,7 @@ fn lay_steps(trace: &[u8], out: &mut [u8], warps: u8) -> usize
     let mut l = Laying {
         going: true,
         at: 0,
-        run: start(warps),
+        run: runs::start(warps),
     };
     while l.going {
         l = lay_turn(trace, &mut *out, l);

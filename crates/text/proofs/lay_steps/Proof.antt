@@ -6,8 +6,8 @@ use Prim.Native.Nat.{_+_, _<_}
 use native.Mathlib.Omega.{arith}
 use denote.Ref.{now}
 use Rattle.text.specs.declared.Laying.{Laying}
-use Rattle.text.specs.declared.Run.{Run}
-use Rattle.text.specs.Turns.{startOf}
+use Rattle.runs.specs.declared.Run.{Run}
+use Rattle.runs.specs.Runs.{startOf}
 use Rattle.text.specs.Buffer.{Lays}
 use Rattle.text.proofs.Buffer.{Left, text-small, left-first, left-next, left-last, measure, turn-less}
 use Rattle.text.proofs.lay_steps.Statement.{statement}

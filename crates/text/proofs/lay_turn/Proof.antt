@@ -8,7 +8,7 @@ use native.Mathlib.Nat.{add-zero}
 use borrow.Author.Needs.{needs}
 use denote.Ref.{now}
 use Rattle.lines.proofs.Lines.{line-most}
-use Rattle.text.specs.declared.Next.the-variants.{Finished}
+use Rattle.runs.specs.declared.Next.the-variants.{Finished}
 use Rattle.text.specs.Buffer.{turnLaid}
 use Rattle.text.proofs.Buffer.{laid-none, turn-laid, line-laid}
 use Rattle.text.proofs.lay_turn.Statement.{statement}

@@ -1,12 +1,12 @@
--- `text::go_on` meets its contract: each part of the turn is what its callee says.
+-- `runs::go_on` meets its contract: each part of the turn is what its callee says.
 -- Assumes nothing.
 use mathlib.Core.Path.{ap, _∙_}
 use borrow.Author.Needs.{needs}
 use Rattle.tables.specs.Tables.{tallied}
 use Rattle.lent.specs.declared.OwnedTurn.{OwnedTurn}
-use Rattle.text.specs.declared.Next.the-variants.{Goes}
-use Rattle.text.proofs.go_on.Statement.{statement}
-use Rattle.text.proofs.go_on.Tie as tie
+use Rattle.runs.specs.declared.Next.the-variants.{Goes}
+use Rattle.runs.proofs.go_on.Statement.{statement}
+use Rattle.runs.proofs.go_on.Tie as tie
 
 step-owned-requires : tie.Need-step-owned-requires
 step-owned-requires c κs = search needs

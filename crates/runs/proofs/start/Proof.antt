@@ -1,9 +1,9 @@
--- `text::start` meets its contract.
+-- `runs::start` meets its contract.
 -- Assumes nothing.
 use borrow.Author.Needs.{needs}
 use Rattle.tables.specs.Tables.{freshTally}
-use Rattle.text.proofs.start.Statement.{statement}
-use Rattle.text.proofs.start.Tie as tie
+use Rattle.runs.proofs.start.Statement.{statement}
+use Rattle.runs.proofs.start.Tie as tie
 
 fresh-owned-requires : tie.Need-fresh-owned-requires
 fresh-owned-requires c κs = search needs

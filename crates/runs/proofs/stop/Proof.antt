@@ -1,10 +1,10 @@
--- `text::stop` meets its contract: each part of the turn is what its callee says.
+-- `runs::stop` meets its contract: each part of the turn is what its callee says.
 -- Assumes nothing.
 use borrow.Author.Needs.{needs}
 use Rattle.block.specs.declared.Verdict.the-variants.{Refused}
-use Rattle.text.specs.declared.Next.the-variants.{Stops}
-use Rattle.text.proofs.stop.Statement.{statement}
-use Rattle.text.proofs.stop.Tie as tie
+use Rattle.runs.specs.declared.Next.the-variants.{Stops}
+use Rattle.runs.proofs.stop.Statement.{statement}
+use Rattle.runs.proofs.stop.Tie as tie
 
 number-in-requires : tie.Need-number-in-requires
 number-in-requires c κs = search needs

@@ -1,11 +1,11 @@
--- `text::turn` meets its contract: no byte is left, reading stops, or a step is taken.
+-- `runs::turn` meets its contract: no byte is left, reading stops, or a step is taken.
 -- Assumes nothing.
 use mathlib.Core.Path.{sym, _∙_}
 use borrow.Author.Needs.{needs}
 use denote.Ref.{now}
-use Rattle.text.proofs.Turns.{turn-end, turn-stop, turn-step}
-use Rattle.text.proofs.turn.Statement.{statement}
-use Rattle.text.proofs.turn.Tie as tie
+use Rattle.runs.proofs.Runs.{turn-end, turn-stop, turn-step}
+use Rattle.runs.proofs.turn.Statement.{statement}
+use Rattle.runs.proofs.turn.Tie as tie
 
 returns : tie.Need-returns
 returns c =
