@@ -184,7 +184,8 @@ class Errors(unittest.TestCase):
 
 class Examples(unittest.TestCase):
     def test_texts_and_bytes_agree(self):
-        texts = sorted((ROOT / "examples").glob("*.trace.txt"))
+        folders = [ROOT / "examples", ROOT / "tests" / "traces"]
+        texts = sorted(text for folder in folders for text in folder.glob("*.trace.txt"))
         self.assertTrue(texts)
         for text in texts:
             with self.subTest(text=text.name):

@@ -4,7 +4,7 @@ use mathlib.Core.Path.{_≡_, refl, sym, ap, ap₂, _∙_, subst}
 use mathlib.Core.Bool.{Bool, true, false, _&&_, _||_, or-false, or-true}
 use mathlib.Core.Logic.{⊎-elim}
 use Prim.Native.Nat.{ℕ, zero, suc, _+_, _-_, _*_, _/_, _%_, _^_, _<_, _≤_}
-use native.Mathlib.Nat.{mod-lt, mod-one, mul-comm, mul-assoc, one-mul, add-comm, pow-suc, mul-mod-left, mod-eq-of-lt, div-eq-of-lt, not-suc-le-zero, le-of-suc-le-suc, eq-or-lt-of-le, lt-of-lt-of-le, le-antisymm}
+use native.Mathlib.Nat.{mod-lt, mod-one, mul-comm, mul-assoc, one-mul, add-comm, pow-suc, mul-mod-left, mod-eq-of-lt, div-eq-of-lt, not-suc-le-zero, le-of-suc-le-suc, eq-or-lt-of-le, lt-of-lt-of-le, le-antisymm, add-zero, add-suc, zero-mul}
 use native.Mathlib.Numerals.{add-one, one-add}
 use native.Mathlib.Omega.{arith}
 use lib.Arith.{lt-of-le-ne, lt-one}
@@ -257,6 +257,12 @@ setOf-more p w b h e = rw (shifted b w h, add-one, e)
 -- a loop that counts to n has looked at them all
 pub setOf-end : (p : ℕ → Bool) (n i : ℕ) → i ≤ n → n ≤ i → setOf i p ≡ setOf n p
 setOf-end p n i a b = rw (le-antisymm a b)
+
+-- where the test holds of no number from n on, none more is put in
+pub setOf-far : (p : ℕ → Bool) (n k : ℕ) → ((i : ℕ) → n ≤ i → p i ≡ false) → setOf n p ≡ setOf (n + k) p
+unfolding setOf
+setOf-far p n zero none = rw (add-zero n)
+setOf-far p n (suc k) none = rw (add-suc n k, none (n + k) (omega arith), zero-mul (2 ^ (n + k)), add-zero (setOf (n + k) p)) (setOf-far p n k none)
 
 -- tests that agree make the same set
 pub setOf-cong : (p q : ℕ → Bool) (n : ℕ) → ((i : ℕ) → i < n → p i ≡ q i) → setOf n p ≡ setOf n q

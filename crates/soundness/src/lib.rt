@@ -11,7 +11,7 @@ ghost use mathlib.Core.Bool.{_&&_, Bool·beq};
 ghost use Prim.Native.Nat.{_*_};
 ghost use lib.Dec.{eqb};
 ghost use Rattle.sets.specs.Sets.{has, size};
-ghost use Rattle.block.specs.Tables.{laneCount, waitsPlaced, warpSound, setsInside, waitingArrived, idleZero, activeArrived, activeCount, countOpen, allOpen, reductionWaits, plainNone, rowSound, rowsFine, agreeing, soundBlock};
+ghost use Rattle.block.specs.Tables.{laneCount, isReady, waitsPlaced, setsInside, waitingArrived, idleZero, activeArrived, activeCount, countOpen, allOpen, reductionWaits, plainNone, rowSound, rowsFine, agreeing, soundBlock};
 ghost use Rattle.soundness.specs.Places.{placeOf, Listed};
 
 // The barrier at which the warp waits; 16, which no barrier is, where it waits at none.
@@ -38,11 +38,11 @@ fn waits_placed(row: Warp) -> bool
     }
 }
 
-// Whether row w of the warps of a block of n is sound.
-fn warp_sound(n: u8, w: u8, row: Warp) -> bool
-    ensures { λ r. ⌜ r ≡ warpSound n w row ⌝ }
+// Whether the warp is ready with result 0, as the rows past the number of warps must be.
+fn is_fresh(row: Warp) -> bool
+    ensures { λ r. ⌜ r ≡ isReady (row .status) && eqb (row .result) 0 ⌝ }
 {
-    ((w < n) | (block::is_ready(row) & (row.result == 0))) & waits_placed(row)
+    block::is_ready(row) & (row.result == 0)
 }
 
 // Whether barrier k, of row r, and warp w agree: its waiting set has the warp exactly when that is the warp's place.
@@ -147,7 +147,7 @@ fn rows_agree(b: Block, alive: u32, places: [u8; MOST_WARPS as usize]) -> bool
     ok
 }
 
-// Whether the block's tables are sound: a pass over the warps, which lists their places and finds who has not exited, and one over the barriers.
+// Whether the block's tables are sound: the rows past the number of warps, then the warps, whose places are listed, and last the barriers.
 pub fn sound(b: Block) -> bool
     ensures { λ r. ⌜ r ≡ soundBlock b ⌝ }
 {
@@ -155,12 +155,20 @@ pub fn sound(b: Block) -> bool
     if !((1 <= n) & (n <= MOST_WARPS)) {
         return false;
     }
+    let mut spare = n;
+    while spare < MOST_WARPS {
+        let row = b.rows[spare as usize];
+        if !is_fresh(row) {
+            return false;
+        }
+        spare += 1;
+    }
     let mut alive: u32 = 0;
     let mut places = [BARRIER_COUNT; MOST_WARPS as usize];
     let mut w: u8 = 0;
-    while w < MOST_WARPS {
+    while w < n {
         let row = b.rows[w as usize];
-        if !warp_sound(n, w, row) {
+        if !waits_placed(row) {
             return false;
         }
         places[w as usize] = place_of(row);

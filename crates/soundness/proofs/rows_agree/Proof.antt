@@ -79,7 +79,7 @@ loop-less c = omega arith
 loop-again : tie.Need-loop-again Inv-loop μ-loop Inv-rows μ-rows
 loop-again c =
     let inv = c .before .before .before .loop .inv in
-    let same = not-false _ (c .if2 .left) in
+    let same : c .before .agree .result ≡ true = not-false _ (c .if2 .left) in
     (omega arith, same, all-more _ _ (inv .2) (sym (agrees (c .before)) ∙ same))
 
 add-k : tie.Need-add-k Inv-loop μ-loop Inv-rows μ-rows

@@ -1,116 +1,203 @@
 use mathlib.Core.Path.{_≡_, refl, sym, _∙_}
-use mathlib.Core.Bool.{true, not, _&&_}
-use Prim.Native.Nat.{_≤_, _-_}
-use native.Mathlib.Nat.{not-suc-le-zero}
+use mathlib.Core.Bool.{Bool, true, not, _&&_}
+use Prim.Native.Nat.{ℕ, _+_, _≤_, _<_, _-_}
+use native.Mathlib.Nat.{not-suc-le-zero, le-antisymm}
 use native.Mathlib.Omega.{arith}
-use lib.Dec.{ltb}
-use lib.ListN.{length, length-set}
+use lib.Dec.{leb, ltb}
+use lib.ListN.{length, length-set, getD-replicate}
 use borrow.Author.Needs.{needs}
-use borrow.Author.Tests.{not-true, not-false}
+use borrow.Author.Tests.{not-true, not-false, leb-true, le-ltb}
 use Rattle.folds.specs.Folds.{all, every}
-use Rattle.folds.proofs.Folds.{all-none, all-more, all-fails, all-end, every-fails}
+use Rattle.folds.proofs.Folds.{and-right, all-none, all-more, all-fails, every-fails}
 use Rattle.sets.specs.Sets.{setOf}
-use Rattle.sets.proofs.Sets.{setOf-more, setOf-fits, setOf-end}
-use Rattle.block.specs.Tables.{warpAt, isExited, warpsCounted, warpSound, soundBlock}
+use Rattle.sets.proofs.Sets.{setOf-more, setOf-fits, setOf-far}
+use Rattle.block.specs.Tables.{warpAt, isExited, waitsPlaced, warpsCounted, liveOf, soundBlock}
+use Rattle.block.specs.declared.Block.{Block}
 use Rattle.soundness.specs.Places.{Listed}
 use Rattle.soundness.proofs.Places.{listed-more}
+use Rattle.soundness.proofs.Warps.{FreshTo, Unlisted, own-row, spare-row, all-warps, all-listed, unlisted-more, fresh-more}
 use Rattle.soundness.proofs.sound.Statement.{statement}
 use Rattle.soundness.proofs.sound.Tie as tie
 
+-- warp v is one of the block's and has not exited
+abbrev lives : Block → ℕ → Bool
+lives b v = ltb v (b .warps) && not (isExited (warpAt b v .status))
+
+-- the warps of the block are all that live
+live-all : (b : Block) → b .warps ≤ 32 → setOf (b .warps) (lives b) ≡ liveOf b
+live-all b l =
+    let size : b .warps + (32 - b .warps) ≡ 32 = omega (arith, l) in
+    rw size at (setOf-far (lives b) (b .warps) (32 - b .warps) (λ v a. rw (le-ltb v (b .warps) a)))
+
 abbrev Inv-loop : tie.InvT-loop
-Inv-loop b n alive₀ places₀ w₀ alive places w =
-    (w ≤ 32)
-    × (all w (λ v. warpSound n v (warpAt b v)) ≡ true)
-    × (length places ≡ 32)
-    × Listed w places b
-    × (alive ≡ setOf w (λ v. ltb v n && not (isExited (warpAt b v .status))))
+Inv-loop b n spare₀ spare = (n ≤ spare) × (spare ≤ 32) × FreshTo b spare
 
 abbrev μ-loop : tie.MeasureT-loop
-μ-loop b n alive₀ places₀ w₀ alive places w = 32 - w
+μ-loop b n spare₀ spare = 32 - spare
 
-returns : tie.Need-returns Inv-loop μ-loop
+abbrev Inv-loop2 : tie.InvT-loop2
+Inv-loop2 b n spare alive₀ places₀ w₀ alive places w =
+    (w ≤ n)
+    × (all w (λ v. waitsPlaced (warpAt b v .status)) ≡ true)
+    × (length places ≡ 32)
+    × Listed w places b
+    × Unlisted w places
+    × (alive ≡ setOf w (lives b))
+
+abbrev μ-loop2 : tie.MeasureT-loop2
+μ-loop2 b n spare alive₀ places₀ w₀ alive places w = n - w
+
+returns : tie.Need-returns Inv-loop μ-loop Inv-loop2 μ-loop2
 unfolding soundBlock
 returns c = every-fails _ 0 (not-true _ (c .if1 .taken))
 
-loop-holds : tie.Need-loop-holds Inv-loop μ-loop
-unfolding setOf
-loop-holds c = (omega arith, all-none _, refl, (λ w l. absurd (not-suc-le-zero l)), refl)
+-- there are at most 32 warps
+few : (c : tie.Else1 Inv-loop μ-loop Inv-loop2 μ-loop2) → c .before .args .t1 .warps ≤ 32
+few c =
+    let b = c .before .args .t1 in
+    leb-true (b .warps) 32 (and-right (leb 1 (b .warps)) (leb (b .warps) 32) (not-false (warpsCounted b) (c .if1 .left)))
 
-cast-row : tie.Need-cast-row Inv-loop μ-loop
+loop-holds : tie.Need-loop-holds Inv-loop μ-loop Inv-loop2 μ-loop2
+loop-holds c = (omega arith, few c, λ v a l. absurd (omega (arith, a, l)))
+
+cast-row : tie.Need-cast-row Inv-loop μ-loop Inv-loop2 μ-loop2
 cast-row c = omega arith
 
-mul-row : tie.Need-mul-row Inv-loop μ-loop
+mul-row : tie.Need-mul-row Inv-loop μ-loop Inv-loop2 μ-loop2
 mul-row c = omega arith
 
-element-copy-out-row : tie.Need-element-copy-out-row Inv-loop μ-loop
+element-copy-out-row : tie.Need-element-copy-out-row Inv-loop μ-loop Inv-loop2 μ-loop2
 element-copy-out-row c = omega arith
 
-warp-sound-requires : tie.Need-warp-sound-requires Inv-loop μ-loop
-warp-sound-requires c κs = search needs
+is-fresh-requires : tie.Need-is-fresh-requires Inv-loop μ-loop Inv-loop2 μ-loop2
+is-fresh-requires c κs = search needs
 
-returns-2 : tie.Need-returns-2 Inv-loop μ-loop
+returns-2 : tie.Need-returns-2 Inv-loop μ-loop Inv-loop2 μ-loop2
 unfolding soundBlock
 returns-2 c =
-    every-fails _ 1 (all-fails _ 32 (c .before .before .before .before .loop .w) (omega arith) (sym (c .before .warp-sound .ensures) ∙ not-true _ (c .if2 .taken)))
+    let h = c .before .before .before .before in
+    let b = h .before .before .args .t1 in
+    let w = h .loop .spare in
+    let fails = sym (c .before .is-fresh .ensures) ∙ not-true _ (c .if2 .taken) in
+    every-fails _ 1 (all-fails _ 32 w (omega arith) (sym (spare-row (b .warps) w (warpAt b w) (h .loop .inv .0)) ∙ fails))
 
-place-of-requires : tie.Need-place-of-requires Inv-loop μ-loop
-place-of-requires c κs = search needs
+add-spare : tie.Need-add-spare Inv-loop μ-loop Inv-loop2 μ-loop2
+add-spare c = omega arith
 
-cast-places : tie.Need-cast-places Inv-loop μ-loop
-cast-places c = search needs
-
-array-write-places : tie.Need-array-write-places Inv-loop μ-loop
-array-write-places c = omega arith
-
-is-live-requires : tie.Need-is-live-requires Inv-loop μ-loop
-is-live-requires c κs = search needs
-
-cast-alive : tie.Need-cast-alive Inv-loop μ-loop
-cast-alive c = search needs
-
-cast-alive-2 : tie.Need-cast-alive-2 Inv-loop μ-loop
-cast-alive-2 c = search needs
-
-shl-alive : tie.Need-shl-alive Inv-loop μ-loop
-shl-alive c = omega arith
-
-add-w : tie.Need-add-w Inv-loop μ-loop
-add-w c = omega arith
-
-loop-less : tie.Need-loop-less Inv-loop μ-loop
+loop-less : tie.Need-loop-less Inv-loop μ-loop Inv-loop2 μ-loop2
 loop-less c = omega arith
 
-loop-again : tie.Need-loop-again Inv-loop μ-loop
+loop-again : tie.Need-loop-again Inv-loop μ-loop Inv-loop2 μ-loop2
 loop-again c =
+    let h = c .before .before .before .before in
+    let b = h .before .before .args .t1 in
+    let w = h .loop .spare in
+    let fresh = sym (c .before .is-fresh .ensures) ∙ not-false _ (c .if2 .left) in
+    (omega arith, omega arith, fresh-more b w (h .loop .inv .2) fresh)
+
+loop2-holds : tie.Need-loop2-holds Inv-loop μ-loop Inv-loop2 μ-loop2
+unfolding setOf
+loop2-holds c = (omega arith, all-none _, refl, (λ w l. absurd (not-suc-le-zero l)), (λ v a l. getD-replicate 32 v _ 0 l), refl)
+
+cast-row-2 : tie.Need-cast-row-2 Inv-loop μ-loop Inv-loop2 μ-loop2
+cast-row-2 c = omega arith
+
+mul-row-2 : tie.Need-mul-row-2 Inv-loop μ-loop Inv-loop2 μ-loop2
+mul-row-2 c = omega arith
+
+element-copy-out-row-2 : tie.Need-element-copy-out-row-2 Inv-loop μ-loop Inv-loop2 μ-loop2
+element-copy-out-row-2 c = let h = c .before in omega (arith, few (h .before .before .before), h .loop2 .inv .0)
+
+waits-placed-requires : tie.Need-waits-placed-requires Inv-loop μ-loop Inv-loop2 μ-loop2
+waits-placed-requires c κs = search needs
+
+returns-3 : tie.Need-returns-3 Inv-loop μ-loop Inv-loop2 μ-loop2
+unfolding soundBlock
+returns-3 c =
+    let h = c .before .before .before .before in
+    let b = h .before .before .before .before .args .t1 in
+    let w = h .loop2 .w in
+    let l : w < b .warps = c .before .before .before .loop2-test .taken in
+    let fails = sym (c .before .waits-placed .ensures) ∙ not-true _ (c .if3 .taken) in
+    every-fails _ 1 (all-fails _ 32 w (omega (arith, l, few (h .before .before .before))) (sym (own-row (b .warps) w (warpAt b w) l) ∙ fails))
+
+place-of-requires : tie.Need-place-of-requires Inv-loop μ-loop Inv-loop2 μ-loop2
+place-of-requires c κs = search needs
+
+cast-places : tie.Need-cast-places Inv-loop μ-loop Inv-loop2 μ-loop2
+cast-places c = search needs
+
+array-write-places : tie.Need-array-write-places Inv-loop μ-loop Inv-loop2 μ-loop2
+array-write-places c =
+    let h = c .before .before .before .before .before in
+    omega (arith, few (h .before .before .before), h .loop2 .inv .0)
+
+is-live-requires : tie.Need-is-live-requires Inv-loop μ-loop Inv-loop2 μ-loop2
+is-live-requires c κs = search needs
+
+cast-alive : tie.Need-cast-alive Inv-loop μ-loop Inv-loop2 μ-loop2
+cast-alive c = search needs
+
+cast-alive-2 : tie.Need-cast-alive-2 Inv-loop μ-loop Inv-loop2 μ-loop2
+cast-alive-2 c = search needs
+
+shl-alive : tie.Need-shl-alive Inv-loop μ-loop Inv-loop2 μ-loop2
+shl-alive c =
+    let h = c .before .before .before .before .before .before in
+    omega (arith, few (h .before .before .before), h .loop2 .inv .0)
+
+add-w : tie.Need-add-w Inv-loop μ-loop Inv-loop2 μ-loop2
+add-w c = omega arith
+
+loop2-less : tie.Need-loop2-less Inv-loop μ-loop Inv-loop2 μ-loop2
+loop2-less c = omega arith
+
+loop2-again : tie.Need-loop2-again Inv-loop μ-loop Inv-loop2 μ-loop2
+loop2-again c =
     let p = c .before in
     let h = p .before .before .before .before .before in
-    let w = h .loop .w in
-    let sound-row = sym (p .before .before .warp-sound .ensures) ∙ not-false _ (p .before .if2 .left) in (
+    let b = h .before .before .before .before .args .t1 in
+    let w = h .loop2 .w in
+    let l = few (h .before .before .before) in
+    let placed = sym (p .before .before .waits-placed .ensures) ∙ not-false _ (p .before .if3 .left) in (
       omega arith,
-      all-more _ w (h .loop .inv .1) sound-row,
-      length-set (h .loop .places) w (p .place-of .result) ∙ h .loop .inv .2,
-      listed-more (h .loop .places) (h .before .before .args .t1) w (p .place-of .result) (omega (arith, h .loop .inv .2)) (h .loop .inv .3) (p .place-of .ensures),
-      rw (h .loop .inv .4) (setOf-more _ w _ (omega arith) (c .is-live .ensures)),
+      all-more _ w (h .loop2 .inv .1) placed,
+      length-set (h .loop2 .places) w (p .place-of .result) ∙ h .loop2 .inv .2,
+      listed-more (h .loop2 .places) b w (p .place-of .result) (omega (arith, l, h .loop2 .inv .2)) (h .loop2 .inv .3) (p .place-of .ensures),
+      unlisted-more (h .loop2 .places) w (p .place-of .result) (h .loop2 .inv .4),
+      rw (h .loop2 .inv .5) (setOf-more _ w _ (omega (arith, l)) (c .is-live .ensures)),
     )
 
--- the new set fits, as the set that it is
-add-alive : tie.Need-add-alive Inv-loop μ-loop
-add-alive c = record { fits = rw (loop-again c .4) (setOf-fits _ _ (loop-again c .0)) }
+add-alive : tie.Need-add-alive Inv-loop μ-loop Inv-loop2 μ-loop2
+add-alive c =
+    let l = few (c .before .before .before .before .before .before .before .before .before) in
+    record { fits = rw (loop2-again c .5) (setOf-fits _ _ (omega (arith, l, loop2-again c .0))) }
 
-rows-agree-requires : tie.Need-rows-agree-requires Inv-loop μ-loop
-rows-agree-requires c κs v l = let inv = c .before .loop .inv in inv .3 v (omega (arith, l, inv .0, c .loop-test .left))
+-- all rows past the number of warps are fresh
+all-spare : (c : tie.After-loop Inv-loop μ-loop Inv-loop2 μ-loop2) → FreshTo (c .before .before .before .args .t1) 32
+all-spare c v a l = c .before .loop .inv .2 v a (omega (arith, l, c .loop-test .left))
 
-returns-3 : tie.Need-returns-3 Inv-loop μ-loop
+-- the walk over the warps has come to their number
+at-end : (c : tie.After-loop2 Inv-loop μ-loop Inv-loop2 μ-loop2) → c .before .loop2 .w ≡ c .before .before .before .before .before .args .t1 .warps
+at-end c = le-antisymm (c .before .loop2 .inv .0) (c .loop2-test .left)
+
+rows-agree-requires : tie.Need-rows-agree-requires Inv-loop μ-loop Inv-loop2 μ-loop2
+rows-agree-requires c κs =
+    let h = c .before in
+    let b = h .before .before .before .before .args .t1 in
+    all-listed b (all-spare (h .before)) (h .loop2 .places) (rw (at-end c) at (h .loop2 .inv .3)) (rw (at-end c) at (h .loop2 .inv .4))
+
+returns-4 : tie.Need-returns-4 Inv-loop μ-loop Inv-loop2 μ-loop2
 unfolding soundBlock every
-returns-3 c =
+returns-4 c =
     let h = c .before .before in
-    let b = h .before .before .args .t1 in
-    let alive = h .loop .inv .4 ∙ setOf-end _ 32 _ (h .loop .inv .0) (c .before .loop-test .left) in
+    let b = h .before .before .before .before .args .t1 in
+    let alive : h .loop2 .alive ≡ liveOf b = h .loop2 .inv .5 ∙ (rw (at-end (c .before)) (live-all b (few (h .before .before .before)))) in
     c .rows-agree .ensures
     ∙ rw (
       alive,
-      not-false (warpsCounted b) (h .before .if1 .left),
-      all-end (λ v. warpSound (b .warps) v (warpAt b v)) 32 _ (h .loop .inv .0) (c .before .loop-test .left) (h .loop .inv .1),
+      not-false (warpsCounted b) (h .before .before .before .if1 .left),
+      all-warps b (all-spare (h .before)) (rw (at-end (c .before)) at (h .loop2 .inv .1)),
     )
 
 pub sound-spec : {M : Type 1} → statement M
@@ -119,13 +206,24 @@ sound-spec =
     (tie.spec
     Inv-loop
     μ-loop
+    Inv-loop2
+    μ-loop2
     returns
     loop-holds
     cast-row
     mul-row
     element-copy-out-row
-    warp-sound-requires
+    is-fresh-requires
     returns-2
+    add-spare
+    loop-less
+    loop-again
+    loop2-holds
+    cast-row-2
+    mul-row-2
+    element-copy-out-row-2
+    waits-placed-requires
+    returns-3
     place-of-requires
     cast-places
     array-write-places
@@ -135,7 +233,7 @@ sound-spec =
     shl-alive
     add-alive
     add-w
-    loop-less
-    loop-again
+    loop2-less
+    loop2-again
     rows-agree-requires
-    returns-3)
+    returns-4)
