@@ -6,9 +6,9 @@ use mathlib.Core.List.{List, [], _++_}
 use Prim.Native.Nat.{ℕ, suc, _+_, _-_, _≤_, _<_}
 use native.Mathlib.Omega.{arith}
 use native.Mathlib.Nat.{zero-add}
-use borrow.Author.Tests.{leb-true, leb-false}
+use borrow.Author.Tests.{le-leb, leb-true, leb-false}
 use lib.Dec.{leb}
-use lib.ListN.{length, getD, length-append}
+use lib.ListN.{length, drop, getD, length-append}
 use lib.Seq.{sets}
 use Rattle.fields.specs.Num.{laid}
 use Rattle.fields.proofs.Num.{laid-fits, laid-short}
@@ -126,3 +126,7 @@ module _ (bytes out : List ℕ) where
   -- bytes that fit
   pub answer-fits : (r : ℕ) → leb (length bytes) (length out) ≡ true → r ≡ length bytes → Length r ≡ answerOf bytes out
   answer-fits r e size = rw (e, size)
+
+  -- bytes that fit stand at the start, and the rest is as it was
+  pub laid-start : length bytes ≤ length out → laid out 0 bytes ≡ bytes ++ drop (length bytes) out
+  laid-start h = rw (zero-add (length bytes), le-leb (length bytes) (length out) h)

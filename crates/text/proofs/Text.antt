@@ -5,9 +5,10 @@ use mathlib.Core.Bool.{Bool, true, false}
 use mathlib.Core.List.{List, [], _∷_}
 use Prim.Native.Nat.{ℕ, zero, suc, _+_, _-_, _*_, _≤_, _<_}
 use native.Mathlib.Omega.{arith}
-use borrow.Author.Tests.{le-leb, lt-leb, leb-true, leb-false, ne-eqb}
+use borrow.Author.Tests.{le-leb, lt-leb, leb-true, leb-false, ne-eqb, lt-ltb}
 use lib.Dec.{leb}
 use lib.ListN.{length, length-append}
+use Rattle.folds.specs.Folds.{lowest}
 use Rattle.steps.specs.declared.Step.{Step}
 use Rattle.steps.specs.declared.Cursor.{Cursor}
 use Rattle.steps.specs.declared.Read.{Read}
@@ -20,7 +21,7 @@ use Rattle.tables.specs.Tables.{Tables}
 use Rattle.tables.specs.Effect.{verdict, after}
 use Rattle.lines.specs.Lines.{mostLine, lineOf}
 use Rattle.lines.proofs.Lines.{line-most}
-use Rattle.text.specs.Text.{answersFrom, answers, traceRefusal, linesOf, textOfAnswers, textOfRefused, textOf}
+use Rattle.text.specs.Text.{mostBytes, answersFrom, answers, traceRefusal, linesOf, textOfAnswers, textOfRefused, textOf}
 
 -- ---- a trace that is refused before its steps, and one that is not
 
@@ -32,6 +33,13 @@ module _ (s : List ℕ) where
   pub text-answered : traceRefusal s ≡ 0 → textOf s ≡ textOfAnswers (answers s)
   unfolding textOf
   text-answered e = rw e
+
+  -- one that is too long, whatever its bytes are
+  pub text-long : mostBytes < length s → textOf s ≡ textOfRefused 21
+  unfolding traceRefusal lowest
+  text-long h =
+      let refused : traceRefusal s ≡ 21 = rw (lt-ltb mostBytes (length s) h) in
+      text-refused (λ z. omega (arith, refused)) ∙ ap textOfRefused refused
 
 -- a step that was read takes two bytes at least, and they are there
 pub moves : (s : List ℕ) (at : ℕ) (st : Step) (c : Cursor) → readAt s at ≡ read.Found st c → (at + 2 ≤ c .at) × (c .at ≤ length s)

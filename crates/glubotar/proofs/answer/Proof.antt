@@ -1,60 +1,51 @@
--- `glubotar::answer` is safe and ends.
+-- `glubotar::answer` meets its contract: it lays the text of the bytes that were read, and writes what it laid.
 -- Assumes nothing.
-use mathlib.Core.Path.{sym}
-use lib.Seq.{length-take-le}
+use mathlib.Core.Path.{sym, ap, subst, _∙_}
+use Prim.Native.Nat.{ℕ}
+use native.Mathlib.Omega.{arith}
 use borrow.Author.Needs.{needs}
+use denote.Ref.{now}
+use lib.ListN.{take}
+use lib.Seq.{length-take-le}
+use Rattle.text.specs.Text.{textOf}
+use Rattle.glubotar.specs.Program.{Holds}
 use Rattle.glubotar.proofs.answer.Statement.{statement}
 use Rattle.glubotar.proofs.answer.Tie as tie
 
-lay-requires : tie.Need-lay-requires
-lay-requires c κs = search needs
+size-requires : tie.Need-size-requires
+size-requires c κs = search needs
 
-enum-known-laid : tie.Need-enum-known-laid
-enum-known-laid c = search needs
+slice-aggregate-lay-whole : tie.Need-slice-aggregate-lay-whole
+slice-aggregate-lay-whole c =
+    sym (length-take-le _ _ (omega (arith, c .before .size .ensures, c .before .before .before .pre .0)))
 
-enum-told : tie.Need-enum-told
-enum-told c = search needs
+lay-whole-requires : tie.Need-lay-whole-requires
+lay-whole-requires c κs = search needs
 
-same-length : tie.Need-same-length
-same-length c = search needs
+slice-aggregate-write-text : tie.Need-slice-aggregate-write-text
+slice-aggregate-write-text c = search needs
+
+write-text-requires : tie.Need-write-text-requires
+write-text-requires c κs =
+    let l = c .before .before .before in
+    let size = l .before .before .before in
+    let buf = now (size .before .before .args .buf) in
+    l .lay-whole .ensures .text ∙ ap (λ (n : ℕ). textOf (take n buf)) (size .size .ensures)
 
 returns : tie.Need-returns
-returns c = search needs
-
-same-length-2 : tie.Need-same-length-2
-same-length-2 c = search needs
-
-returns-2 : tie.Need-returns-2
-returns-2 c = search needs
-
-slice-reshare-prefix-write-all : tie.Need-slice-reshare-prefix-write-all
-slice-reshare-prefix-write-all c = search needs
-
-slice-aggregate-write-all : tie.Need-slice-aggregate-write-all
-slice-aggregate-write-all c = sym (length-take-le _ _ (search needs))
-
-write-all-requires : tie.Need-write-all-requires
-write-all-requires c κs = search needs
-
-same-length-3 : tie.Need-same-length-3
-same-length-3 c = search needs
-
-returns-3 : tie.Need-returns-3
-returns-3 c = search needs
+returns c =
+    let l = c .before .before .before .before in
+    let size = l .before .before .before in
+    let buf = now (size .before .before .args .buf) in
+    subst (λ (n : ℕ). Holds (l .lay-whole .last .1 .0) (take n buf)) (size .size .ensures) (l .lay-whole .ensures .holds)
 
 pub answer-spec : {M : Type 1} → statement M
 answer-spec =
     tie.close
     (tie.spec
-    lay-requires
-    enum-known-laid
-    enum-told
-    same-length
-    returns
-    same-length-2
-    returns-2
-    slice-reshare-prefix-write-all
-    slice-aggregate-write-all
-    write-all-requires
-    same-length-3
-    returns-3)
+    size-requires
+    slice-aggregate-lay-whole
+    lay-whole-requires
+    slice-aggregate-write-text
+    write-text-requires
+    returns)

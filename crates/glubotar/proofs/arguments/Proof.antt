@@ -1,14 +1,12 @@
 -- `glubotar::arguments` is safe and ends.
 -- Assumes nothing.
-use Prim.Native.Nat.{_≤_, _-_}
+use Prim.Native.Nat.{_-_}
 use borrow.Author.Needs.{needs}
-use mathlib.Core.Path.{_≡_}
-use lib.ListN.{length}
 use Rattle.glubotar.proofs.arguments.Statement.{statement}
 use Rattle.glubotar.proofs.arguments.Tie as tie
 
 abbrev Inv-loop : tie.InvT-loop
-Inv-loop trace₀ text₀ count i₀ trace text i = (length trace ≡ length trace₀) × (length text ≡ length text₀)
+Inv-loop trace₀ text₀ count i₀ trace text i = Unit
 
 abbrev μ-loop : tie.MeasureT-loop
 μ-loop trace₀ text₀ count i₀ trace text i = count - i
@@ -22,6 +20,9 @@ loop-holds c = search needs
 argument-requires : tie.Need-argument-requires Inv-loop μ-loop
 argument-requires c κs = search needs
 
+returns : tie.Need-returns Inv-loop μ-loop
+returns c = search needs
+
 add-i : tie.Need-add-i Inv-loop μ-loop
 add-i c = search needs
 
@@ -31,14 +32,8 @@ loop-less c = search needs
 loop-again : tie.Need-loop-again Inv-loop μ-loop
 loop-again c = search needs
 
-same-length : tie.Need-same-length Inv-loop μ-loop
-same-length c = search needs
-
-same-length-2 : tie.Need-same-length-2 Inv-loop μ-loop
-same-length-2 c = search needs
-
-returns : tie.Need-returns Inv-loop μ-loop
-returns c = search needs
+returns-2 : tie.Need-returns-2 Inv-loop μ-loop
+returns-2 c = search needs
 
 pub arguments-spec : {M : Type 1} → statement M
 arguments-spec =
@@ -49,9 +44,8 @@ arguments-spec =
     arg-count-requires
     loop-holds
     argument-requires
+    returns
     add-i
     loop-less
     loop-again
-    same-length
-    same-length-2
-    returns)
+    returns-2)

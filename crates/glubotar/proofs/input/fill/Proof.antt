@@ -1,17 +1,20 @@
--- `glubotar::fill` is safe and ends.
+-- `glubotar::input::fill` meets its contract: it never passes the buffer's end, and a full buffer holds more than the longest trace.
 -- Assumes nothing.
 use Prim.Native.Nat.{_≤_, _-_}
 use borrow.Author.Needs.{needs}
-use mathlib.Core.Path.{_≡_}
+use mathlib.Core.Path.{_≡_, sym}
+use native.Mathlib.Omega.{arith}
 use lib.ListN.{length}
-use Rattle.glubotar.proofs.fill.Statement.{statement}
-use Rattle.glubotar.proofs.fill.Tie as tie
+use lib.Seq.{length-take-le}
+use Rattle.glubotar.proofs.Program.{long-settled}
+use Rattle.glubotar.proofs.input.fill.Statement.{statement}
+use Rattle.glubotar.proofs.input.fill.Tie as tie
 
 abbrev Inv-loop : tie.InvT-loop
-Inv-loop fd buf₀ at₀ buf at = (at ≤ length buf) × (length buf ≡ length buf₀)
+Inv-loop fd room₀ at₀ room at = (at ≤ length room) × (length room ≡ length room₀)
 
 abbrev μ-loop : tie.MeasureT-loop
-μ-loop fd buf₀ at₀ buf at = length buf₀ - at
+μ-loop fd room₀ at₀ room at = length room₀ - at
 
 loop-holds : tie.Need-loop-holds Inv-loop μ-loop
 loop-holds c = search needs
@@ -28,11 +31,8 @@ part-read-end c = search needs
 read-requires : tie.Need-read-requires Inv-loop μ-loop
 read-requires c κs = search needs
 
-same-length : tie.Need-same-length Inv-loop μ-loop
-same-length c = search needs
-
 returns : tie.Need-returns Inv-loop μ-loop
-returns c = search needs
+returns c = tt
 
 sub-count : tie.Need-sub-count Inv-loop μ-loop
 sub-count c = search needs
@@ -46,12 +46,6 @@ part-count-end c = search needs
 count-requires : tie.Need-count-requires Inv-loop μ-loop
 count-requires c κs = search needs
 
-same-length-2 : tie.Need-same-length-2 Inv-loop μ-loop
-same-length-2 c = search needs
-
-returns-2 : tie.Need-returns-2 Inv-loop μ-loop
-returns-2 c = search needs
-
 add-at : tie.Need-add-at Inv-loop μ-loop
 add-at c = search needs
 
@@ -61,11 +55,12 @@ loop-less c = search needs
 loop-again : tie.Need-loop-again Inv-loop μ-loop
 loop-again c = search needs
 
-same-length-3 : tie.Need-same-length-3 Inv-loop μ-loop
-same-length-3 c = search needs
+returns-2 : tie.Need-returns-2 Inv-loop μ-loop
+returns-2 c =
+    ((search needs, sym (length-take-le _ _ (search needs))), λ full. long-settled _ (omega (arith, full, length-take-le (c .before .loop .at) (c .before .loop .room) (search needs))))
 
 returns-3 : tie.Need-returns-3 Inv-loop μ-loop
-returns-3 c = search needs
+returns-3 c = ((search needs, sym (length-take-le _ _ (search needs))), λ full. absurd (omega (arith, full)))
 
 pub fill-spec : {M : Type 1} → statement M
 fill-spec =
@@ -78,16 +73,13 @@ fill-spec =
     part-read-start
     part-read-end
     read-requires
-    same-length
     returns
     sub-count
     part-count-start
     part-count-end
     count-requires
-    same-length-2
-    returns-2
     add-at
     loop-less
     loop-again
-    same-length-3
+    returns-2
     returns-3)

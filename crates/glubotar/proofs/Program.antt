@@ -1,0 +1,54 @@
+-- Laws of the room for the text of any trace, and of a trace that is too long.
+-- Assumes nothing.
+use mathlib.Core.Path.{_≡_, sym, ap, _∙_, subst}
+use mathlib.Core.List.{List, _++_}
+use Prim.Native.Nat.{ℕ, _≤_, _<_}
+use native.Mathlib.Omega.{arith}
+use borrow.Author.Tests.{le-leb}
+use lib.ListN.{length, take, drop, length-append}
+use lib.Seq.{length-take-le, take-append-seam, take-at, drop-at}
+use Rattle.io.specs.Counts.{Counts}
+use Rattle.text.specs.declared.Laid.the-variants.{Length, Short}
+use Rattle.text.specs.Text.{mostBytes, roomFor, textOf}
+use Rattle.text.specs.Buffer.{answerOf}
+use Rattle.text.proofs.Laws.{room-is-enough}
+use Rattle.text.proofs.Text.{text-long}
+use Rattle.glubotar.specs.declared.input.Read.{Read}
+use Rattle.glubotar.specs.declared.input.Filled.{Filled}
+use Rattle.glubotar.specs.declared.input.Filled.the-variants.{Bytes}
+use Rattle.glubotar.specs.Program.{Settled, Fills, LaysWhole}
+
+-- what was read lies within the buffer
+pub fills-counts : (r : Filled) (read : Read) (buf : List ℕ) → Fills r buf → r ≡ Bytes read → Counts (read .len) buf
+fills-counts r read buf h e = subst (λ (x : Filled). Fills x buf) e h .0
+
+-- more bytes leave a trace that is too long as it is
+pub long-settled : (s : List ℕ) → mostBytes < length s → Settled s
+long-settled s long more = text-long (s ++ more) (omega (arith, length-append s more)) ∙ sym (text-long s long)
+
+-- the text of any trace, and a buffer with the room for the longest one's
+module _ (s before : List ℕ) (room : roomFor mostBytes ≤ length before) where
+  pub text-fits : length (textOf s) ≤ length before
+  text-fits = omega (arith, room-is-enough s)
+
+  answers-length : answerOf (textOf s) before ≡ Length (length (textOf s))
+  answers-length = rw (le-leb (length (textOf s)) (length before) text-fits)
+
+  pub never-short : Short ≡ answerOf (textOf s) before → ⊥
+  never-short e =
+      let none : _≡_ {A = ℕ} 0 1 = cc (e, answers-length) in
+      omega (arith, none)
+
+  pub lays-whole : (n : ℕ) (after : List ℕ) → Length n ≡ answerOf (textOf s) before → after ≡ textOf s ++ drop (length (textOf s)) before
+      → LaysWhole s before n after
+  lays-whole n after told e =
+      let size : n ≡ length (textOf s) = cc (told, answers-length) in
+      let whole = length-append (textOf s) (drop (length (textOf s)) before) in
+      let fits : n ≤ length after = omega (arith, size, whole, ap length e) in
+      record {
+        size = size;
+        holds = ap (take (length (textOf s))) e ∙ take-append-seam (textOf s) _;
+        rest = ap (drop n) e ∙ drop-at (textOf s) _ n (sym size) ∙ ap (λ (k : ℕ). drop k before) (sym size);
+        counts = (fits, sym (length-take-le n after fits));
+        text = ap (take n) e ∙ take-at (textOf s) _ n (sym size);
+      }
