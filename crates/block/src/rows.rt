@@ -1,4 +1,4 @@
-// One row: a fresh one, what an arrival makes of it, and the result of one that completes.
+// One row: a fresh one, what an arrival finds in it and makes of it, whether it completes, and its result.
 use crate::Barrier;
 use crate::Call;
 use crate::Form;
@@ -12,7 +12,7 @@ ghost use mathlib.Core.Bool.{cond};
 ghost use Prim.Native.Nat.{_+_};
 ghost use Rattle.sets.specs.Sets.{put};
 ghost use Rattle.block.specs.Tables.{freshWarp, idle};
-ghost use Rattle.block.specs.Steps.{countOf, upToLargest, arrivedRow, resultOf};
+ghost use Rattle.block.specs.Rows.{countOf, badCount, differs as differsOf, upToLargest, arrivedRow, completes as completesOf, resultOf};
 
 // A ready warp's row, with result 0.
 pub fn fresh_warp() -> Warp
@@ -92,4 +92,38 @@ pub fn result_of(r: Barrier) -> u32
         Form::And => (r.trues == LANE_COUNT * sets::size(r.arrived)) as u32,
         Form::Or => (0 < r.trues) as u32,
     }
+}
+
+// Whether a barrier completes with row r, in a block of which the warps of alive have not exited.
+pub fn completes(alive: u32, r: Barrier) -> bool
+    ensures { λ t. ⌜ t ≡ completesOf alive r ⌝ }
+{
+    if r.threads == 0 {
+        return sets::part(alive, r.arrived);
+    }
+    LANE_COUNT * sets::size(r.arrived) == r.threads as u32
+}
+
+// Whether line 7 applies to the thread count, in a block of so many warps.
+pub fn bad_count(warps: u8, t: Threads) -> bool
+    ensures { λ r. ⌜ r ≡ badCount warps t ⌝ }
+{
+    match t {
+        Threads::All => false,
+        Threads::Given(n) => {
+            let n = n as u32;
+            (n == 0) | (!(n % LANE_COUNT == 0) | (LANE_COUNT * (warps as u32) < n))
+        }
+    }
+}
+
+// Whether the barrier's row is active with another thread count or form.
+pub fn differs(r: Barrier, c: Call) -> bool
+    ensures { λ t. ⌜ t ≡ differsOf r c ⌝ }
+{
+    let f = r.form;
+    let g = c.form;
+    let t = c.threads;
+    let form = crate::form_number(f);
+    !(form == 0) & (!(r.threads == count_of(t)) | !(form == crate::form_number(g)))
 }

@@ -15,7 +15,7 @@ use Rattle.folds.proofs.Folds.{every-at}
 use Rattle.sets.specs.Sets.{has, part}
 use Rattle.sets.proofs.Sets.{has-none, has-setOf, ext, part-has}
 use Rattle.block.specs.Tables.{mostWarps, barrierCount, freshWarp, warpAt, barrierAt, isIdle, isReady, isExited, waitsAt, liveOf, warpSound, soundBlock}
-use Rattle.block.specs.Steps.{completed, without, opens, opened}
+use Rattle.barriers.specs.Steps.{completed, without, opens, opened}
 use Rattle.block.specs.declared.Status.{Status}
 use Rattle.block.specs.declared.Status.the-variants.{Ready, Waiting, Exited}
 use Rattle.block.specs.declared.Warp.{Warp}

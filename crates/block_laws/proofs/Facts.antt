@@ -11,7 +11,7 @@ use Rattle.folds.specs.Folds.{every}
 use Rattle.folds.proofs.Folds.{every-at, all-at, all-of, none-at, alike, alike-of}
 use Rattle.sets.specs.Sets.{has, part, within, size}
 use Rattle.block.specs.Tables.{mostWarps, laneCount, barrierCount, warpAt, barrierAt, liveOf, isIdle, isPlain, isReduction, isReady, waitsAt, setsInside, idleZero, activeArrived, activeCount, countOpen, allOpen, reductionWaits, plainNone, warpSound, rowSound, rowsSound, agreeing, soundBlock}
-use Rattle.block.specs.Steps.{badThreads, clashes, warpRefusal, arrivalRefusal}
+use Rattle.barriers.specs.Steps.{badThreads, clashes, warpRefusal, arrivalRefusal}
 use Rattle.block.specs.declared.Status.{Status}
 use Rattle.block.specs.declared.Status.the-variants.{Ready, Waiting, Exited}
 use Rattle.block.specs.declared.Barrier.{Barrier}

@@ -6,7 +6,7 @@ use Prim.Native.Nat.{ℕ, _<_}
 use lib.Dec.{eqb}
 use Rattle.sets.specs.Sets.{has}
 use Rattle.block.specs.Tables.{mostWarps, barrierCount, warpAt, barrierAt, isReduction, soundBlock}
-use Rattle.block.specs.Steps.{warpRefusal, arrival, without, opens, opened, exit}
+use Rattle.barriers.specs.Steps.{warpRefusal, arrival, without, opens, opened, exit}
 use Rattle.block.specs.declared.Status.the-variants.{Ready}
 use Rattle.block.specs.declared.Form.{Form}
 use Rattle.block.specs.declared.Block.{Block}

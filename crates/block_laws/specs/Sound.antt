@@ -5,7 +5,8 @@ use mathlib.Core.Bool.{true}
 use Prim.Native.Nat.{ℕ, _+_, _*_, _<_, _≤_}
 use lib.ListN.{length}
 use Rattle.block.specs.Tables.{mostWarps, laneCount, barrierCount, barrierAt, isPlain, isReduction, soundBlock, freshBlock}
-use Rattle.block.specs.Steps.{upToLargest, arrival, exit}
+use Rattle.block.specs.Rows.{upToLargest}
+use Rattle.barriers.specs.Steps.{arrival, exit}
 use Rattle.calls.specs.Calls.{syncCall, arriveCall, redCall}
 use Rattle.block.specs.declared.Block.{Block}
 use Rattle.block.specs.declared.Threads.{Threads}

@@ -6,8 +6,7 @@ use Prim.Native.Nat.{ℕ}
 use lib.Dec.{eqb}
 use Rattle.block.specs.declared.Form.the-variants.{Idle, Popc, And, Or}
 use Rattle.block.specs.Tables.{isIdle}
-use Rattle.block.specs.Steps.{badSelector}
-use Rattle.calls.specs.Calls.{formOf}
+use Rattle.calls.specs.Calls.{formOf, badSelector}
 
 forms : (a b c d e f : Bool) → isIdle (cond (a || d) Popc (cond (b || e) And (cond (c || f) Or Idle))) ≡ not (a || (b || (c || (d || (e || f)))))
 forms true b c d e f = refl

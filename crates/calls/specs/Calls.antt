@@ -1,6 +1,6 @@
 -- What sync, arrive and red ask for: document 01, "Named barriers".
 -- Assumes nothing.
-use mathlib.Core.Bool.{true, false, cond, _||_}
+use mathlib.Core.Bool.{Bool, true, false, not, cond, _||_}
 use Prim.Native.Nat.{ℕ, _-_, _^_}
 use lib.Dec.{eqb, ltb}
 use Rattle.sets.specs.Sets.{size}
@@ -17,6 +17,10 @@ formOf s = cond (eqb s 0 || eqb s 4) Popc (cond (eqb s 1 || eqb s 5) And (cond (
 -- the true lanes of a mask, which the selectors from 4 complement
 abbrev pub lanesOf : ℕ → ℕ → ℕ
 lanesOf s mask = size (cond (ltb 3 s) (2 ^ 32 - 1 - mask) mask)
+
+-- 8: selector not 0, 1, 2, 4, 5 or 6
+abbrev pub badSelector : ℕ → Bool
+badSelector s = not (eqb s 0 || (eqb s 1 || (eqb s 2 || (eqb s 4 || (eqb s 5 || eqb s 6)))))
 
 -- sync and red wait; arrive doesn't
 abbrev pub syncCall : Threads → Call

@@ -21,7 +21,7 @@ use Rattle.object.specs.Row as row
 use Rattle.block.specs.declared.Turn.{Turn}
 use Rattle.block.specs.declared.Verdict.the-variants.{Accepted}
 use Rattle.block.specs.Tables.{isIdle}
-use Rattle.block.specs.Steps as block
+use Rattle.barriers.specs.Steps as barriers
 use Rattle.calls.proofs.Calls.{selector-form}
 use Rattle.tables.specs.declared.Taken.{Taken}
 use Rattle.tables.specs.Tables.{View}
@@ -43,35 +43,35 @@ module _ (v : View) (w : ℕ) where
   abbrev step : Op → Step
   step o = record { warp = w; op = o }
 
-  exit-chain : refusal v (step Exit) ≡ cond (not (v .sound)) 3 (block.warpRefusal (v .block) w)
-  unfolding refusal lowest block.warpRefusal
+  exit-chain : refusal v (step Exit) ≡ cond (not (v .sound)) 3 (barriers.warpRefusal (v .block) w)
+  unfolding refusal lowest barriers.warpRefusal
   exit-chain = refl
 
-  barrier-chain : (k : ℕ) (b : BarrierStep) → refusal v (step (Barrier k b)) ≡ cond (not (v .sound)) 3 (block.arrivalRefusal (v .block) w k (callOf b))
-  unfolding refusal lowest block.arrivalRefusal
+  barrier-chain : (k : ℕ) (b : BarrierStep) → refusal v (step (Barrier k b)) ≡ cond (not (v .sound)) 3 (barriers.arrivalRefusal (v .block) w k (callOf b))
+  unfolding refusal lowest barriers.arrivalRefusal
   barrier-chain k b =
       ap (λ (x : Bool). lowest (
       (not (v .sound), 3)
-      ∷ (block.noSuchWarp (v .block) w, 4)
-      ∷ (block.notReady (v .block) w, 5)
-      ∷ (block.noSuchBarrier k, 6)
-      ∷ (block.badThreads (v .block) (callOf b .threads), 7)
+      ∷ (barriers.noSuchWarp (v .block) w, 4)
+      ∷ (barriers.notReady (v .block) w, 5)
+      ∷ (barriers.noSuchBarrier k, 6)
+      ∷ (barriers.badThreads (v .block) (callOf b .threads), 7)
       ∷ (x, 8)
-      ∷ (block.clashes (v .block) k (callOf b), 9)
-      ∷ (block.alreadyArrived (v .block) k w, 10)
+      ∷ (barriers.clashes (v .block) k (callOf b), 9)
+      ∷ (barriers.alreadyArrived (v .block) k w, 10)
       ∷ []
       )) (sym (form-selector b))
 
   object-chain : (a : ℕ) (o : ObjectStep)
       → refusal v (step (Object a o))
       ≡ cond (not (v .sound)) 3
-      (cond (block.noSuchWarp (v .block) w) 4 (cond (block.notReady (v .block) w) 5 (cond (offPlace a) 11 (row.refusal (v .object) (a / 8) (actOf o)))))
+      (cond (barriers.noSuchWarp (v .block) w) 4 (cond (barriers.notReady (v .block) w) 5 (cond (offPlace a) 11 (row.refusal (v .object) (a / 8) (actOf o)))))
   unfolding refusal lowest
   object-chain a o = refl
 
   pending-chain : (t : ℕ)
       → refusal v (step (PendingCount t))
-      ≡ cond (not (v .sound)) 3 (cond (block.noSuchWarp (v .block) w) 4 (cond (block.notReady (v .block) w) 5 (cond (tooLarge t) 19 0)))
+      ≡ cond (not (v .sound)) 3 (cond (barriers.noSuchWarp (v .block) w) 4 (cond (barriers.notReady (v .block) w) 5 (cond (tooLarge t) 19 0)))
   unfolding refusal lowest
   pending-chain t = refl
 
@@ -99,31 +99,31 @@ abbrev pub ifSound : View → Taken → Taken
 ifSound v x = cond (not (v .sound)) (refused v 3) x
 
 module _ (v : View) (w : ℕ) where
-  pub taken-exit : taken v (record { warp = w; op = Exit }) ≡ ifSound v (blockTaken (v .object) (block.exit (v .block) w))
-  unfolding taken block.exit
+  pub taken-exit : taken v (record { warp = w; op = Exit }) ≡ ifSound v (blockTaken (v .object) (barriers.exit (v .block) w))
+  unfolding taken barriers.exit
   taken-exit =
-      let e = blockTaken (v .object) (block.exits (v .block) w) in
-      let n = block.warpRefusal (v .block) w in
+      let e = blockTaken (v .object) (barriers.exits (v .block) w) in
+      let n = barriers.warpRefusal (v .block) w in
       ap (unless v e) (exit-chain v w)
       ∙ over v e (not (v .sound)) 2 n
-      ∙ ap (ifSound v) (in-block v (eqb n 0) (block.exits (v .block) w) (block.refused (v .block) n))
+      ∙ ap (ifSound v) (in-block v (eqb n 0) (barriers.exits (v .block) w) (barriers.refused (v .block) n))
 
   pub taken-barrier : (k : ℕ) (b : BarrierStep)
-      → taken v (record { warp = w; op = Barrier k b }) ≡ ifSound v (blockTaken (v .object) (block.arrival (v .block) w k (callOf b)))
-  unfolding taken block.arrival
+      → taken v (record { warp = w; op = Barrier k b }) ≡ ifSound v (blockTaken (v .object) (barriers.arrival (v .block) w k (callOf b)))
+  unfolding taken barriers.arrival
   taken-barrier k b =
-      let e = blockTaken (v .object) (block.arrives (v .block) w k (callOf b)) in
-      let n = block.arrivalRefusal (v .block) w k (callOf b) in
+      let e = blockTaken (v .object) (barriers.arrives (v .block) w k (callOf b)) in
+      let n = barriers.arrivalRefusal (v .block) w k (callOf b) in
       ap (unless v e) (barrier-chain v w k b)
       ∙ over v e (not (v .sound)) 2 n
-      ∙ ap (ifSound v) (in-block v (eqb n 0) (block.arrives (v .block) w k (callOf b)) (block.refused (v .block) n))
+      ∙ ap (ifSound v) (in-block v (eqb n 0) (barriers.arrives (v .block) w k (callOf b)) (barriers.refused (v .block) n))
 
   -- lines 3, 4 and 5, and the rest of the chain
   first-three : (e : Taken) (n : ℕ)
-      → unless v e (cond (not (v .sound)) 3 (cond (block.noSuchWarp (v .block) w) 4 (cond (block.notReady (v .block) w) 5 n))) ≡ ifSound v (ifReady (v .block) (v .object) w (unless v e n))
+      → unless v e (cond (not (v .sound)) 3 (cond (barriers.noSuchWarp (v .block) w) 4 (cond (barriers.notReady (v .block) w) 5 n))) ≡ ifSound v (ifReady (v .block) (v .object) w (unless v e n))
   first-three e n =
       over v e (not (v .sound)) 2 _
-      ∙ ap (ifSound v) (over v e (block.noSuchWarp (v .block) w) 3 _ ∙ ap (λ (x : Taken). cond (block.noSuchWarp (v .block) w) (refused v 4) x) (over v e (block.notReady (v .block) w) 4 n))
+      ∙ ap (ifSound v) (over v e (barriers.noSuchWarp (v .block) w) 3 _ ∙ ap (λ (x : Taken). cond (barriers.noSuchWarp (v .block) w) (refused v 4) x) (over v e (barriers.notReady (v .block) w) 4 n))
 
   pub taken-object : (a : ℕ) (o : ObjectStep)
       → taken v (record { warp = w; op = Object a o })
@@ -157,8 +157,8 @@ cond-has P false x y h k = k
 
 -- what the kind's own part of a step has
 abbrev pub Has : (Taken → Type 0) → View → ℕ → Op → Type 0
-Has P v w Exit = P (blockTaken (v .object) (block.exit (v .block) w))
-Has P v w (Barrier k b) = P (blockTaken (v .object) (block.arrival (v .block) w k (callOf b)))
+Has P v w Exit = P (blockTaken (v .object) (barriers.exit (v .block) w))
+Has P v w (Barrier k b) = P (blockTaken (v .object) (barriers.arrival (v .block) w k (callOf b)))
 Has P v w (Object a o) = P (answered (v .block) (v .object) (row.stepRow (v .object) (a / 8) (actOf o)))
 Has P v w (PendingCount t) = P (effect v w (PendingCount t))
 
@@ -169,13 +169,13 @@ taken-has P v w (Barrier k b) r h = subst P (sym (taken-barrier v w k b)) (cond-
 taken-has P v w (Object a o) r h =
     subst P (sym (taken-object v w a o))
     (cond-has P (not (v .sound)) _ _ (r 3)
-    (cond-has P (block.noSuchWarp (v .block) w) _ _ (r 4)
-    (cond-has P (block.notReady (v .block) w) _ _ (r 5) (cond-has P (offPlace a) _ _ (r 11) h))))
+    (cond-has P (barriers.noSuchWarp (v .block) w) _ _ (r 4)
+    (cond-has P (barriers.notReady (v .block) w) _ _ (r 5) (cond-has P (offPlace a) _ _ (r 11) h))))
 taken-has P v w (PendingCount t) r h =
     subst P (sym (taken-pending v w t))
     (cond-has P (not (v .sound)) _ _ (r 3)
-    (cond-has P (block.noSuchWarp (v .block) w) _ _ (r 4)
-    (cond-has P (block.notReady (v .block) w) _ _ (r 5) (cond-has P (tooLarge t) _ _ (r 19) h))))
+    (cond-has P (barriers.noSuchWarp (v .block) w) _ _ (r 4)
+    (cond-has P (barriers.notReady (v .block) w) _ _ (r 5) (cond-has P (tooLarge t) _ _ (r 19) h))))
 
 -- unsound tables
 pub taken-unsound : (v : View) (s : Step) → v .sound ≡ false → refused v 3 ≡ taken v s

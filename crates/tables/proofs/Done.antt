@@ -26,7 +26,8 @@ use Rattle.block.specs.declared.Block.{Block}
 use Rattle.block.specs.declared.Turn.{Turn}
 use Rattle.block.specs.declared.Verdict.the-variants.{Accepted}
 use Rattle.block.specs.Tables.{barrierCount, idle, barrierAt, liveOf, isIdle, soundBlock}
-use Rattle.block.specs.Steps as block
+use Rattle.block.specs.Rows as rows
+use Rattle.barriers.specs.Steps as barriers
 use Rattle.block_laws.specs.Sound.{Shaped}
 use Rattle.block_laws.proofs.General.{first-holds}
 use Rattle.tables.specs.declared.Taken.{Taken}
@@ -64,31 +65,31 @@ module _ (t : Tables) (w k : ℕ) (b : BarrierStep) (shaped : Shaped (t .block))
       let s : Step = record { warp = w; op = Barrier k b } in
       let v = viewOf t s in
       let no = passes v s ok in
-      let r = block.arrivedRow (barrierAt (t .block) k) w (callOf b) in
+      let r = rows.arrivedRow (barrierAt (t .block) k) w (callOf b) in
       let low = leb-false barrierCount k (no 3) in
       let form : isIdle (callOf b .form) ≡ false = form-selector b ∙ no 5 in
       subst (λ (x : Taken). (doneOf (x .verdict) ≡ true) ↔ (isIdle (barrierAt (x .block) k .form) ≡ true)) (sym (does v s ok))
-      (idle-done k (block.completed (t .block) k r) (block.goesOn (t .block) k r w (callOf b .waits)) refl refl
+      (idle-done k (barriers.completed (t .block) k r) (barriers.goesOn (t .block) k r w (callOf b .waits)) refl refl
       (ap (λ (x : BarrierRow). isIdle (x .form)) (stored (t .block .barriers) k idle (shaped .barriers) low))
       (ap (λ (x : BarrierRow). isIdle (x .form)) (stored (t .block .barriers) k r (shaped .barriers) low) ∙ form)
-      (block.completes (liveOf (t .block)) r))
+      (rows.completes (liveOf (t .block)) r))
 
 -- ---- an exit
 
 module _ (t : Tables) (w : ℕ) (ok : isAccepted (verdict t (record { warp = w; op = Exit })) ≡ true) where
   abbrev left : Block
-  left = block.without (t .block) w
+  left = barriers.without (t .block) w
 
   abbrev Emptied : Turn → Type 0
   Emptied x = (k : ℕ) × (isIdle (barrierAt (t .block) k .form) ≡ false) × (isIdle (barrierAt (x .block) k .form) ≡ true)
 
-  exit-turn : (shaped : Shaped (t .block)) (c : Bool) → ltb (block.opened left) barrierCount ≡ c
-      → let x = cond c (block.completed left (block.opened left) (barrierAt left (block.opened left))) (record { verdict = Accepted 0 false 0; block = left }) in
+  exit-turn : (shaped : Shaped (t .block)) (c : Bool) → ltb (barriers.opened left) barrierCount ≡ c
+      → let x = cond c (barriers.completed left (barriers.opened left) (barrierAt left (barriers.opened left))) (record { verdict = Accepted 0 false 0; block = left }) in
       (doneOf (x .verdict) ≡ true) ↔ Emptied x
   exit-turn shaped true h =
-      let k = block.opened left in
+      let k = barriers.opened left in
       let low = ltb-true k barrierCount h in
-      let active = not-true (isIdle (barrierAt (t .block) k .form)) (every-at _ (first-holds (λ j. block.opens left j) barrierCount low) 0) in (
+      let active = not-true (isIdle (barrierAt (t .block) k .form)) (every-at _ (first-holds (λ j. barriers.opens left j) barrierCount low) 0) in (
         λ e. (k, active, ap (λ (x : BarrierRow). isIdle (x .form)) (stored (t .block .barriers) k idle (shaped .barriers) low)),
         λ e. refl,
       )
@@ -99,7 +100,7 @@ module _ (t : Tables) (w : ℕ) (ok : isAccepted (verdict t (record { warp = w; 
       let s : Step = record { warp = w; op = Exit } in
       subst (λ (x : Taken). (doneOf (x .verdict) ≡ true) ↔ ((k : ℕ) × (isIdle (barrierAt (t .block) k .form) ≡ false) × (isIdle (barrierAt (x .block) k .form) ≡ true)))
       (sym (does (viewOf t s) s ok))
-      (exit-turn shaped (ltb (block.opened left) barrierCount) refl)
+      (exit-turn shaped (ltb (barriers.opened left) barrierCount) refl)
 
 -- ---- an object
 

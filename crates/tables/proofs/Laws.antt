@@ -19,7 +19,8 @@ use Rattle.block.specs.declared.Turn.{Turn}
 use Rattle.block.specs.declared.Verdict.{Verdict}
 use Rattle.block.specs.declared.Verdict.the-variants.{Refused, Accepted}
 use Rattle.block.specs.Tables.{liveOf, barrierAt}
-use Rattle.block.specs.Steps as block
+use Rattle.block.specs.Rows as rows
+use Rattle.barriers.specs.Steps as barriers
 use Rattle.tables.specs.declared.Taken.{Taken}
 use Rattle.tables.specs.Tables.{View, viewOf, slotOf, numberOf, isAccepted, valueOf, doneOf, releasedOf}
 use Rattle.tables.specs.Refusals.{callOf, lines, refusal}
@@ -35,12 +36,12 @@ accepted-turn false x y e f = f
 -- what no line refuses is accepted
 effect-accepted : (v : View) (w : ℕ) (o : Op) → isAccepted (effect v w o .verdict) ≡ true
 effect-accepted v w Exit =
-    accepted-turn (ltb (block.opened (block.without (v .block) w)) 16)
-    (block.completed (block.without (v .block) w) (block.opened (block.without (v .block) w)) (barrierAt (block.without (v .block) w) (block.opened (block.without (v .block) w))))
-    (record { verdict = Accepted 0 false 0; block = block.without (v .block) w }) refl refl
+    accepted-turn (ltb (barriers.opened (barriers.without (v .block) w)) 16)
+    (barriers.completed (barriers.without (v .block) w) (barriers.opened (barriers.without (v .block) w)) (barrierAt (barriers.without (v .block) w) (barriers.opened (barriers.without (v .block) w))))
+    (record { verdict = Accepted 0 false 0; block = barriers.without (v .block) w }) refl refl
 effect-accepted v w (Barrier k b) =
-    let r = block.arrivedRow (barrierAt (v .block) k) w (callOf b) in
-    accepted-turn (block.completes (liveOf (v .block)) r) (block.completed (v .block) k r) (block.goesOn (v .block) k r w (callOf b .waits)) refl refl
+    let r = rows.arrivedRow (barrierAt (v .block) k) w (callOf b) in
+    accepted-turn (rows.completes (liveOf (v .block)) r) (barriers.completed (v .block) k r) (barriers.goesOn (v .block) k r w (callOf b .waits)) refl refl
 effect-accepted v w (Object a o) = refl
 effect-accepted v w (PendingCount t) = refl
 

@@ -15,7 +15,7 @@ use Rattle.object.specs.Tokens.{tooLarge, pendingIn, pendingCount}
 use Rattle.object.specs.Row.{stepRow}
 use Rattle.block.specs.declared.Block.{Block}
 use Rattle.block.specs.declared.Verdict.the-variants.{Accepted}
-use Rattle.block.specs.Steps.{noSuchWarp, notReady, warpRefusal}
+use Rattle.barriers.specs.Steps.{noSuchWarp, notReady, warpRefusal}
 use Rattle.tables.specs.declared.Taken.{Taken}
 use Rattle.tables.specs.Refusals.{actOf}
 use Rattle.tables.specs.Parts.{leaves, answered, offPlace, ifReady, objectTaken, pendingTaken}

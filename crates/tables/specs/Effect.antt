@@ -12,7 +12,7 @@ use Rattle.object.specs.Tokens.{pendingIn}
 use Rattle.object.specs.Row as row
 use Rattle.block.specs.declared.Verdict.{Verdict}
 use Rattle.block.specs.declared.Verdict.the-variants.{Accepted}
-use Rattle.block.specs.Steps as block
+use Rattle.barriers.specs.Steps as barriers
 use Rattle.tables.specs.declared.Taken.{Taken}
 use Rattle.tables.specs.declared.Tally.{Tally}
 use Rattle.tables.specs.Tables.{Tables, View, viewOf, slotOf, tallied}
@@ -21,8 +21,8 @@ use Rattle.tables.specs.Parts.{leaves, blockTaken}
 
 -- what a step does that no line refuses
 abbrev pub effect : View → ℕ → Op → Taken
-effect v w Exit = blockTaken (v .object) (block.exits (v .block) w)
-effect v w (Barrier k b) = blockTaken (v .object) (block.arrives (v .block) w k (callOf b))
+effect v w Exit = blockTaken (v .object) (barriers.exits (v .block) w)
+effect v w (Barrier k b) = blockTaken (v .object) (barriers.arrives (v .block) w k (callOf b))
 effect v w (Object a o) = record {
   verdict = Accepted (row.valueOf (v .object) (slotOf (Object a o)) (actOf o)) (row.ends (v .object) (actOf o)) 0;
   block = v .block;

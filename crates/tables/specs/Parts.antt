@@ -12,7 +12,7 @@ use Rattle.object.specs.Row.{stepRow}
 use Rattle.block.specs.declared.Block.{Block}
 use Rattle.block.specs.declared.Turn.{Turn}
 use Rattle.block.specs.declared.Verdict.the-variants.{Refused, Accepted}
-use Rattle.block.specs.Steps.{noSuchWarp, notReady}
+use Rattle.barriers.specs.Steps.{noSuchWarp, notReady}
 use Rattle.tables.specs.declared.Taken.{Taken}
 use Rattle.tables.specs.Refusals.{actOf}
 

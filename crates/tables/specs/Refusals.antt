@@ -18,7 +18,7 @@ use Rattle.object.specs.Tokens.{tooLarge}
 use Rattle.object.specs.Row as row
 use Rattle.block.specs.declared.Threads.the-variants.{All, Given}
 use Rattle.block.specs.declared.Call.{Call}
-use Rattle.block.specs.Steps as block
+use Rattle.barriers.specs.Steps as barriers
 use Rattle.calls.specs.Calls as calls
 use Rattle.tables.specs.Tables.{View, slotOf}
 
@@ -69,27 +69,27 @@ notSound v s = not (v .sound)
 
 -- 4: no such warp
 abbrev pub noSuchWarp : View → Step → Bool
-noSuchWarp v s = block.noSuchWarp (v .block) (s .warp)
+noSuchWarp v s = barriers.noSuchWarp (v .block) (s .warp)
 
 -- 5: warp not ready
 abbrev pub notReady : View → Step → Bool
-notReady v s = block.notReady (v .block) (s .warp)
+notReady v s = barriers.notReady (v .block) (s .warp)
 
 -- 6: barrier above 15
 abbrev pub noSuchBarrier : View → Step → Bool
-noSuchBarrier v s = ofBarrier (λ k c. block.noSuchBarrier k) (s .op)
+noSuchBarrier v s = ofBarrier (λ k c. barriers.noSuchBarrier k) (s .op)
 
 -- 7: threads given, and 0, no multiple of 32, or above 32 times the warps
 abbrev pub badThreads : View → Step → Bool
-badThreads v s = ofBarrier (λ k c. block.badThreads (v .block) (c .threads)) (s .op)
+badThreads v s = ofBarrier (λ k c. barriers.badThreads (v .block) (c .threads)) (s .op)
 
 -- the selector of a red is bad, false of any other step
 abbrev pub selectorOf : BarrierStep → Bool
 selectorOf barrier.SyncAll = false
 selectorOf (barrier.Sync t) = false
 selectorOf (barrier.Arrive t) = false
-selectorOf (barrier.RedAll s m) = block.badSelector s
-selectorOf (barrier.Red s t m) = block.badSelector s
+selectorOf (barrier.RedAll s m) = calls.badSelector s
+selectorOf (barrier.Red s t m) = calls.badSelector s
 
 -- 8: selector not 0, 1, 2, 4, 5 or 6
 abbrev pub badSelector : Op → Bool
@@ -100,11 +100,11 @@ badSelector (PendingCount t) = false
 
 -- 9: barrier active with another thread count or form
 abbrev pub clashes : View → Step → Bool
-clashes v s = ofBarrier (λ k c. block.clashes (v .block) k c) (s .op)
+clashes v s = ofBarrier (λ k c. barriers.clashes (v .block) k c) (s .op)
 
 -- 10: this warp has already arrived there
 abbrev pub alreadyArrived : View → Step → Bool
-alreadyArrived v s = ofBarrier (λ k c. block.alreadyArrived (v .block) k (s .warp)) (s .op)
+alreadyArrived v s = ofBarrier (λ k c. barriers.alreadyArrived (v .block) k (s .warp)) (s .op)
 
 -- 11: address no multiple of 8, or above 504
 abbrev pub badAddress : View → Step → Bool

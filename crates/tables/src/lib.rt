@@ -152,7 +152,7 @@ fn answer(b: Block, row: Object, a: Answer) -> Taken
 fn on_object(b: Block, row: Object, w: u8, a: u16, o: ObjectStep) -> Taken
     ensures { λ r. ⌜ r ≡ ifReady b row w (objectTaken b row a o) ⌝ }
 {
-    let n = block::warp_refusal(b, w);
+    let n = barriers::warp_refusal(b, w);
     if n != 0 {
         return refuse(b, row, n);
     }
@@ -166,7 +166,7 @@ fn on_object(b: Block, row: Object, w: u8, a: u16, o: ObjectStep) -> Taken
 fn pending(b: Block, row: Object, w: u8, token: u64) -> Taken
     ensures { λ r. ⌜ r ≡ ifReady b row w (pendingTaken b row token) ⌝ }
 {
-    let n = block::warp_refusal(b, w);
+    let n = barriers::warp_refusal(b, w);
     if n != 0 {
         return refuse(b, row, n);
     }
@@ -191,8 +191,8 @@ fn act(b: Block, row: Object, step: Step) -> Taken
     let w = step.warp;
     let op = step.op;
     match op {
-        Op::Exit => in_block(block::exit(b, w), row),
-        Op::Barrier(k, s) => in_block(block::arrival(b, w, k, call_of(s)), row),
+        Op::Exit => in_block(barriers::exit(b, w), row),
+        Op::Barrier(k, s) => in_block(barriers::arrival(b, w, k, call_of(s)), row),
         Op::Object(a, o) => on_object(b, row, w, a, o),
         Op::PendingCount(t) => pending(b, row, w, t),
     }

@@ -2,7 +2,7 @@
 -- Assumes nothing.
 use mathlib.Core.Path.{sym, ap, _∙_}
 use mathlib.Core.Bool.{true}
-use Rattle.block.specs.Steps.{arrival}
+use Rattle.barriers.specs.Steps.{arrival}
 use Rattle.tables.specs.Parts.{blockTaken}
 use Rattle.tables.proofs.Chains.{taken-exit, taken-barrier, taken-object, taken-pending}
 use borrow.Author.Needs.{needs}

@@ -1,0 +1,126 @@
+-- Laws of the steps: which line refuses an arrival, and the ends of an arrival and of an exit.
+-- Assumes nothing.
+use mathlib.Core.Path.{_≡_, refl, sym, ap, subst, _∙_}
+use mathlib.Core.Bool.{Bool, true, false, cond, _&&_}
+use mathlib.Core.List.{[], _∷_}
+use Prim.Native.Nat.{ℕ, _<_, _≤_}
+use lib.Dec.{eqb, ltb}
+use lib.ListN.{length, set}
+use lib.Seq.{set-out}
+use borrow.Author.Tests.{ne-eqb, lt-ltb, le-ltb, ltb-false, leb-false}
+use Rattle.folds.specs.Folds.{lowest}
+use Rattle.folds.proofs.Folds.{none-at}
+use Rattle.block.specs.Tables.{barrierCount, isIdle, barrierAt, liveOf}
+use Rattle.block.specs.Rows.{arrivedRow, completes}
+use Rattle.barriers.specs.Steps.{noSuchWarp, notReady, noSuchBarrier, badThreads, clashes, alreadyArrived, warpRefusal, arrivalRefusal, completed, goesOn, refused, arrival, without, opened, exit}
+use Rattle.block.specs.declared.Verdict.the-variants.{Accepted}
+use Rattle.block.specs.declared.Barrier.{Barrier}
+use Rattle.block.specs.declared.Block.{Block}
+use Rattle.block.specs.declared.Call.{Call}
+
+-- ---- which line refuses an arrival
+
+-- lines 4 and 5 come before the others
+first-lines : (s t : Bool) (m : ℕ) → cond s 4 (cond t 5 m) ≡ cond (eqb (cond s 4 (cond t 5 0)) 0) m (cond s 4 (cond t 5 0))
+first-lines true t m = refl
+first-lines false true m = refl
+first-lines false false m = refl
+
+module _ (b : Block) (w k : ℕ) (c : Call) where
+  arrival-lines : arrivalRefusal b w k c
+      ≡ cond (eqb (warpRefusal b w) 0)
+      (lowest (
+      (noSuchBarrier k, 6) ∷ (badThreads b (c .threads), 7) ∷ (isIdle (c .form), 8) ∷ (clashes b k c, 9) ∷ (alreadyArrived b k w, 10) ∷ []
+      ))
+      (warpRefusal b w)
+  unfolding arrivalRefusal warpRefusal lowest
+  arrival-lines = first-lines (noSuchWarp b w) (notReady b w) _
+
+  pub warp-line : (n : ℕ) → n ≡ warpRefusal b w → (n ≡ 0 → ⊥) → n ≡ arrivalRefusal b w k c
+  warp-line n e h = rw (arrival-lines, ← e, ne-eqb n 0 h)
+
+  module _ (free : warpRefusal b w ≡ 0) where
+    pub line-6 : noSuchBarrier k ≡ true → 6 ≡ arrivalRefusal b w k c
+    unfolding lowest
+    line-6 e = rw (arrival-lines, free, e)
+
+    module _ (no-6 : noSuchBarrier k ≡ false) where
+      pub line-7 : badThreads b (c .threads) ≡ true → 7 ≡ arrivalRefusal b w k c
+      unfolding lowest
+      line-7 e = rw (arrival-lines, free, no-6, e)
+
+      module _ (no-7 : badThreads b (c .threads) ≡ false) where
+        pub line-8 : isIdle (c .form) ≡ true → 8 ≡ arrivalRefusal b w k c
+        unfolding lowest
+        line-8 e = rw (arrival-lines, free, no-6, no-7, e)
+
+        module _ (no-8 : isIdle (c .form) ≡ false) where
+          pub line-9 : clashes b k c ≡ true → 9 ≡ arrivalRefusal b w k c
+          unfolding lowest
+          line-9 e = rw (arrival-lines, free, no-6, no-7, no-8, e)
+
+          module _ (no-9 : clashes b k c ≡ false) where
+            pub line-10 : alreadyArrived b k w ≡ true → 10 ≡ arrivalRefusal b w k c
+            unfolding lowest
+            line-10 e = rw (arrival-lines, free, no-6, no-7, no-8, no-9, e)
+
+            pub no-line : alreadyArrived b k w ≡ false → 0 ≡ arrivalRefusal b w k c
+            unfolding lowest
+            no-line e = rw (arrival-lines, free, no-6, no-7, no-8, no-9, e)
+
+-- ---- the ends of an arrival
+
+-- past the last warp row there is none to change
+pub goes-on-kept : (b : Block) (k : ℕ) (r : Barrier) (w : ℕ) (waits : Bool) → length (b .rows) ≡ 32 → waits && ltb w 32 ≡ false
+    → record { verdict = Accepted 0 false 0; block = record { warps = b .warps; rows = b .rows; barriers = set (b .barriers) k r } }
+    ≡ goesOn b k r w waits
+goes-on-kept b k r w true l e = rw (set-out (b .rows) w _ (rw l (ltb-false w 32 e)))
+goes-on-kept b k r w false l e = refl
+
+module _ (b : Block) (w k : ℕ) (c : Call) where
+  -- an arrival that no line refuses is at a barrier that there is
+  pub barrier-there : arrivalRefusal b w k c ≡ 0 → k < barrierCount
+  unfolding arrivalRefusal
+  barrier-there e = leb-false barrierCount k (none-at _ refl e 2)
+
+  pub is-refused : (n : ℕ) → n ≡ arrivalRefusal b w k c → (n ≡ 0 → ⊥) → refused b n ≡ arrival b w k c
+  unfolding arrival
+  is-refused n e h = rw (← e, ne-eqb n 0 h)
+
+  module _ (r : Barrier) (arrived : r ≡ arrivedRow (barrierAt b k) w c) (alive : ℕ) (live : alive ≡ liveOf b) (free : arrivalRefusal b w k c ≡ 0) where
+    same-end : (t : Bool) → completes alive r ≡ t → completes (liveOf b) (arrivedRow (barrierAt b k) w c) ≡ t
+    same-end t h = subst (λ (x : Barrier). completes (liveOf b) x ≡ t) arrived (subst (λ (n : ℕ). completes n r ≡ t) live h)
+
+    pub is-completed : completes alive r ≡ true → completed b k r ≡ arrival b w k c
+    unfolding arrival
+    is-completed h = ap (λ (x : Barrier). completed b k x) arrived ∙ rw (free, same-end true h)
+
+    pub is-going-on : completes alive r ≡ false → goesOn b k r w (c .waits) ≡ arrival b w k c
+    unfolding arrival
+    is-going-on h = ap (λ (x : Barrier). goesOn b k x w (c .waits)) arrived ∙ rw (free, same-end false h)
+
+-- ---- the ends of an exit
+
+module _ (b : Block) (w : ℕ) where
+  pub exit-refused : (n : ℕ) → n ≡ warpRefusal b w → (n ≡ 0 → ⊥) → refused b n ≡ exit b w
+  unfolding exit
+  exit-refused n e h = rw (← e, ne-eqb n 0 h)
+
+  module _ (e : Block) (gone : e ≡ without b w) (free : warpRefusal b w ≡ 0) where
+    abbrev Alone : Block → Type 0
+    Alone x = barrierCount ≤ opened x → record { verdict = Accepted 0 false 0; block = x } ≡ exit b w
+
+    abbrev Opens : Block → Type 0
+    Opens x = opened x < barrierCount → completed x (opened x) (barrierAt x (opened x)) ≡ exit b w
+
+    pub exit-alone : Alone e
+    unfolding exit
+    exit-alone = subst Alone (sym gone) (λ h. rw (free, le-ltb (opened (without b w)) barrierCount h))
+
+    exit-opens : Opens e
+    unfolding exit
+    exit-opens = subst Opens (sym gone) (λ h. rw (free, lt-ltb (opened (without b w)) barrierCount h))
+
+    pub exit-completes : (k : ℕ) → k ≡ opened e → k < barrierCount → completed e k (barrierAt e k) ≡ exit b w
+    exit-completes k q h =
+        ap (λ (j : ℕ). completed e j (barrierAt e j)) q ∙ exit-opens (subst (λ (j : ℕ). j < barrierCount) q h)
