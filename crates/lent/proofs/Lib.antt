@@ -1,4 +1,3 @@
-pub mod Walk
 pub mod Lend
 pub mod Entries
 pub mod Laws

@@ -3,17 +3,13 @@ use block::Block;
 use block::Turn;
 use block::Verdict;
 use object::Object;
+use rows::SLOTS;
 use steps::Step;
 use tables::Taken;
 use tables::Tally;
 ghost use mathlib.Core.Path.{_≡_};
-ghost use lib.ListN.{length, getD, set, replicate};
-ghost use Rattle.object.specs.Row.{dead};
-ghost use Rattle.tables.specs.Tables.{soundTables, soundObjects, slotOf, tallied, freshTally};
+ghost use Rattle.tables.specs.Tables.{soundTables, slotOf, freshTally};
 ghost use Rattle.lent.specs.Entries.{tablesOf, stateOf, turnOf, Stepped, freshRefusal, freshTurn, Freshened, bundled, ownedStep, ownedFresh};
-
-// How many records the list has.
-const SLOTS: usize = 64;
 
 // A block has at most 32 warps.
 const MOST_WARPS: u8 = 32;
@@ -31,68 +27,11 @@ pub struct OwnedTurn {
     pub state: Owned,
 }
 
-// Whether the list has 64 records and each is sound; the first that is not ends the check.
-pub fn rows_sound(objects: &[Object]) -> bool
-    ensures { λ r. ⌜ r ≡ soundObjects (now (objects .entry)) ⌝ }
-{
-    if objects.len() != SLOTS {
-        return false;
-    }
-    let mut i: usize = 0;
-    while i < SLOTS {
-        if !object::sound(objects[i]) {
-            return false;
-        }
-        i += 1;
-    }
-    true
-}
-
 // Whether the tables of this block and this list are sound.
 pub fn sound(b: Block, objects: &[Object]) -> bool
     ensures { λ r. ⌜ r ≡ soundTables (tablesOf b (now (objects .entry))) ⌝ }
 {
-    soundness::sound(b) & rows_sound(objects)
-}
-
-// A copy of row i, and of the dead row past the end.
-fn row_at(objects: &[Object], i: usize) -> Object
-    ensures { λ r. ⌜ r ≡ getD (now (objects .entry)) i dead ⌝ }
-{
-    if objects.len() <= i {
-        return object::dead();
-    }
-    objects[i]
-}
-
-// Stores a row at i, and past the end nothing.
-fn put_row(objects: &mut [Object], i: usize, row: Object)
-    ensures { λ _. ⌜ now (objects .exit) ≡ set (now (objects .entry)) i row ⌝ }
-{
-    if objects.len() <= i {
-        return;
-    }
-    objects[i] = row;
-}
-
-// Makes every row dead.
-fn fresh_rows(objects: &mut [Object])
-    ensures { λ _. ⌜ now (objects .exit) ≡ replicate (length (now (objects .entry))) dead ⌝ }
-{
-    let n = objects.len();
-    let row = object::dead();
-    let mut i: usize = 0;
-    while i < n {
-        objects[i] = row;
-        i += 1;
-    }
-}
-
-// One more accepted or refused, in place.
-fn count(tally: &mut Tally, v: Verdict)
-    ensures { λ _. ⌜ now (tally .exit) ≡ tallied (now (tally .entry)) v ⌝ }
-{
-    *tally = tables::add(*tally, v);
+    soundness::sound(b) & rows::rows_sound(objects)
 }
 
 // The row that a step names.
@@ -116,12 +55,12 @@ fn turn_of(t: Taken) -> Turn
 pub fn step(b: Block, objects: &mut [Object], tally: &mut Tally, s: Step) -> Turn
     ensures { λ r. ⌜ Stepped (stateOf b (now (objects .entry)) (now (tally .entry))) s r (now (objects .exit)) (now (tally .exit)) ⌝ }
 {
-    let fine = rows_sound(objects);
+    let fine = rows::rows_sound(objects);
     let at = slot(s);
-    let row = row_at(objects, at);
+    let row = rows::row_at(objects, at);
     let out = tables::take(b, fine, row, s);
-    put_row(objects, at, out.object);
-    count(tally, out.verdict);
+    rows::put_row(objects, at, out.object);
+    rows::count(tally, out.verdict);
     turn_of(out)
 }
 
@@ -178,7 +117,7 @@ pub fn fresh(objects: &mut [Object], tally: &mut Tally, warps: u8) -> Turn
     if n != 0 {
         return fresh_turn(n, warps);
     }
-    fresh_rows(objects);
+    rows::fresh_rows(objects);
     *tally = fresh_tally();
     fresh_turn(n, warps)
 }

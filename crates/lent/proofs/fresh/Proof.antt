@@ -54,9 +54,13 @@ use Rattle.tables.specs.declared.Tally.{Tally}
 use Rattle.tables.specs.Tables.{freshTally}
 use Rattle.tables.proofs.Tally as T
 use Rattle.tables.proofs.Tally.Laws as T′
+use Rattle.rows.proofs.Walk.{is-false, says-too, calls-exact, forks, gone1, concluded, over}
+use Rattle.rows.proofs.fresh_rows as fresh-rows
+use Rattle.rows.proofs.fresh_rows.Symbol as fresh-rows-def
+use Rattle.rows.proofs.fresh_rows.Symbol.{name as #rows·fresh-rows}
+use Rattle.rows.proofs.fresh_rows.Met as fresh-rows-thm
 use Rattle.lent.specs.Entries.{freshRefusal, freshTurn, Freshened}
 use Rattle.lent.proofs.Entries.{all-there}
-use Rattle.lent.proofs.Walk.{is-false, says-too, calls-exact, forks, gone1, concluded, over}
 use Rattle.lent.proofs.Lend.{Back, rows-lent, rows-lent-back, calls-lending}
 use Rattle.lent.proofs.fresh_refusal as fresh-refusal
 use Rattle.lent.proofs.fresh_refusal.Symbol as fresh-refusal-def
@@ -66,10 +70,6 @@ use Rattle.lent.proofs.fresh_turn as fresh-turn
 use Rattle.lent.proofs.fresh_turn.Symbol as fresh-turn-def
 use Rattle.lent.proofs.fresh_turn.Symbol.{name as #lent·fresh-turn}
 use Rattle.lent.proofs.fresh_turn.Met as fresh-turn-thm
-use Rattle.lent.proofs.fresh_rows as fresh-rows
-use Rattle.lent.proofs.fresh_rows.Symbol as fresh-rows-def
-use Rattle.lent.proofs.fresh_rows.Symbol.{name as #lent·fresh-rows}
-use Rattle.lent.proofs.fresh_rows.Met as fresh-rows-thm
 use Rattle.lent.proofs.fresh_tally as fresh-tally
 use Rattle.lent.proofs.fresh_tally.Symbol as fresh-tally-def
 use Rattle.lent.proofs.fresh_tally.Symbol.{name as #lent·fresh-tally}
@@ -99,7 +99,7 @@ module _ {M : Type 1} (𝓤 : URA M) (H : Heap 𝓤) (A : Atoms 𝓤) (at-mem : 
   pub record Known (C : Calls 𝓤 H) : Type 1 where
     pub fresh-refusal : Triple 𝓤 (C #lent·fresh-refusal) FreshRefusal
     pub fresh-turn : Triple 𝓤 (C #lent·fresh-turn) FreshTurn
-    pub fresh-rows : Triple 𝓤 (C #lent·fresh-rows) FreshRows
+    pub fresh-rows : Triple 𝓤 (C #rows·fresh-rows) FreshRows
     pub fresh-tally : Triple 𝓤 (C #lent·fresh-tally) FreshTally
 
 -- what two calls answer: the refusal number, and the turn that it makes
@@ -221,6 +221,6 @@ fresh-spec 𝓤 H 𝓜 𝓖 𝓡 =
     (fresh-walks 𝓤 H (𝓖 .A) (givenOf 𝓤 H 𝓜 𝓖) (𝓜 .mem) (𝓡 .run) (over 𝓤 H 𝓜 𝓖 𝓡 code.env) (record {
       fresh-refusal = cited 𝓤 H (FreshRefusal 𝓤 H (𝓖 .A) (𝓜 .mem) (𝓡 .run)) 𝓜 𝓡 code.env #lent·fresh-refusal fresh-refusal-def.routine code.calls-lent·fresh-refusal (fresh-refusal-thm.met 𝓤 H 𝓜 𝓖 𝓡);
       fresh-turn = cited 𝓤 H (FreshTurn 𝓤 H (𝓖 .A) (𝓜 .mem) (𝓡 .run)) 𝓜 𝓡 code.env #lent·fresh-turn fresh-turn-def.routine code.calls-lent·fresh-turn (fresh-turn-thm.met 𝓤 H 𝓜 𝓖 𝓡);
-      fresh-rows = cited 𝓤 H (FreshRows 𝓤 H (𝓖 .A) (𝓜 .mem) (𝓡 .run)) 𝓜 𝓡 code.env #lent·fresh-rows fresh-rows-def.routine code.calls-lent·fresh-rows (fresh-rows-thm.met 𝓤 H 𝓜 𝓖 𝓡);
+      fresh-rows = cited 𝓤 H (FreshRows 𝓤 H (𝓖 .A) (𝓜 .mem) (𝓡 .run)) 𝓜 𝓡 code.env #rows·fresh-rows fresh-rows-def.routine code.calls-rows·fresh-rows (fresh-rows-thm.met 𝓤 H 𝓜 𝓖 𝓡);
       fresh-tally = cited 𝓤 H (FreshTally 𝓤 H (𝓖 .A) (𝓜 .mem) (𝓡 .run)) 𝓜 𝓡 code.env #lent·fresh-tally fresh-tally-def.routine code.calls-lent·fresh-tally (fresh-tally-thm.met 𝓤 H 𝓜 𝓖 𝓡);
     }))

@@ -70,29 +70,29 @@ use Rattle.tables.proofs.take as take
 use Rattle.tables.proofs.take.Symbol as take-def
 use Rattle.tables.proofs.take.Symbol.{name as #tables·take}
 use Rattle.tables.proofs.take.Met as take-thm
+use Rattle.rows.proofs.Walk.{says-too, calls-exact, gone1, concluded, over}
+use Rattle.rows.proofs.rows_sound as rows-sound
+use Rattle.rows.proofs.rows_sound.Symbol as rows-sound-def
+use Rattle.rows.proofs.rows_sound.Symbol.{name as #rows·rows-sound}
+use Rattle.rows.proofs.rows_sound.Met as rows-sound-thm
+use Rattle.rows.proofs.row_at as row-at
+use Rattle.rows.proofs.row_at.Symbol as row-at-def
+use Rattle.rows.proofs.row_at.Symbol.{name as #rows·row-at}
+use Rattle.rows.proofs.row_at.Met as row-at-thm
+use Rattle.rows.proofs.put_row as put-row
+use Rattle.rows.proofs.put_row.Symbol as put-row-def
+use Rattle.rows.proofs.put_row.Symbol.{name as #rows·put-row}
+use Rattle.rows.proofs.put_row.Met as put-row-thm
+use Rattle.rows.proofs.count as count
+use Rattle.rows.proofs.count.Symbol as count-def
+use Rattle.rows.proofs.count.Symbol.{name as #rows·count}
+use Rattle.rows.proofs.count.Met as count-thm
 use Rattle.lent.specs.Entries.{tablesOf as tables-of, stateOf, turnOf, Stepped}
-use Rattle.lent.proofs.Walk.{says-too, calls-exact, gone1, concluded, over}
 use Rattle.lent.proofs.Lend.{Back, rows-shared, rows-shared-back, rows-lent, rows-lent-back, record-lent, record-lent-back, calls-lending}
-use Rattle.lent.proofs.rows_sound as rows-sound
-use Rattle.lent.proofs.rows_sound.Symbol as rows-sound-def
-use Rattle.lent.proofs.rows_sound.Symbol.{name as #lent·rows-sound}
-use Rattle.lent.proofs.rows_sound.Met as rows-sound-thm
 use Rattle.lent.proofs.slot as slot
 use Rattle.lent.proofs.slot.Symbol as slot-def
 use Rattle.lent.proofs.slot.Symbol.{name as #lent·slot}
 use Rattle.lent.proofs.slot.Met as slot-thm
-use Rattle.lent.proofs.row_at as row-at
-use Rattle.lent.proofs.row_at.Symbol as row-at-def
-use Rattle.lent.proofs.row_at.Symbol.{name as #lent·row-at}
-use Rattle.lent.proofs.row_at.Met as row-at-thm
-use Rattle.lent.proofs.put_row as put-row
-use Rattle.lent.proofs.put_row.Symbol as put-row-def
-use Rattle.lent.proofs.put_row.Symbol.{name as #lent·put-row}
-use Rattle.lent.proofs.put_row.Met as put-row-thm
-use Rattle.lent.proofs.count as count
-use Rattle.lent.proofs.count.Symbol as count-def
-use Rattle.lent.proofs.count.Symbol.{name as #lent·count}
-use Rattle.lent.proofs.count.Met as count-thm
 use Rattle.lent.proofs.turn_of as turn-of
 use Rattle.lent.proofs.turn_of.Symbol as turn-of-def
 use Rattle.lent.proofs.turn_of.Symbol.{name as #lent·turn-of}
@@ -129,12 +129,12 @@ module _ {M : Type 1} (𝓤 : URA M) (H : Heap 𝓤) (A : Atoms 𝓤) (at-mem : 
   TurnOf = tripleOf 𝓤 H A turn-of.signature (turn-of.spec 𝓤 H A at-mem run)
 
   pub record Known (C : Calls 𝓤 H) : Type 1 where
-    pub rows-sound : Triple 𝓤 (C #lent·rows-sound) RowsSound
+    pub rows-sound : Triple 𝓤 (C #rows·rows-sound) RowsSound
     pub slot : Triple 𝓤 (C #lent·slot) Slot
-    pub row-at : Triple 𝓤 (C #lent·row-at) RowAt
+    pub row-at : Triple 𝓤 (C #rows·row-at) RowAt
     pub take : Triple 𝓤 (C #tables·take) Take
-    pub put-row : Triple 𝓤 (C #lent·put-row) PutRow
-    pub count : Triple 𝓤 (C #lent·count) Count
+    pub put-row : Triple 𝓤 (C #rows·put-row) PutRow
+    pub count : Triple 𝓤 (C #rows·count) Count
     pub turn-of : Triple 𝓤 (C #lent·turn-of) TurnOf
 
 -- what the calls answer one after the other: whether the rows are sound, the row that is named, a copy of it, and the step taken on it
@@ -270,11 +270,11 @@ step-spec 𝓤 H 𝓜 𝓖 𝓡 =
     (goes-none 𝓤 H (𝓖 .A) (givenOf 𝓤 H 𝓜 𝓖) 2 (λ _. B.the-row) yes (λ κs x f. refl), (goes-slice 𝓤 H (𝓖 .A) (givenOf 𝓤 H 𝓜 𝓖) 2 0 tt (plain (λ _. O.the-row)), (goes-ref 𝓤 H (𝓖 .A) (givenOf 𝓤 H 𝓜 𝓖) 2 1 tt (plain (λ _. T.the-row)), (goes-none 𝓤 H (𝓖 .A) (givenOf 𝓤 H 𝓜 𝓖) 2 (λ _. S.the-row) yes (λ κs x f. refl), tt))))
     (step.clauses 𝓤 H (𝓖 .A) (𝓜 .mem) (𝓡 .run)) #lent·step code.function (code.unfolded 𝓤 H 𝓜 𝓡)
     (step-walks 𝓤 H (𝓖 .A) (givenOf 𝓤 H 𝓜 𝓖) (𝓜 .mem) (𝓡 .run) (over 𝓤 H 𝓜 𝓖 𝓡 code.env) (record {
-      rows-sound = cited 𝓤 H (RowsSound 𝓤 H (𝓖 .A) (𝓜 .mem) (𝓡 .run)) 𝓜 𝓡 code.env #lent·rows-sound rows-sound-def.routine code.calls-lent·rows-sound (rows-sound-thm.met 𝓤 H 𝓜 𝓖 𝓡);
+      rows-sound = cited 𝓤 H (RowsSound 𝓤 H (𝓖 .A) (𝓜 .mem) (𝓡 .run)) 𝓜 𝓡 code.env #rows·rows-sound rows-sound-def.routine code.calls-rows·rows-sound (rows-sound-thm.met 𝓤 H 𝓜 𝓖 𝓡);
       slot = cited 𝓤 H (Slot 𝓤 H (𝓖 .A) (𝓜 .mem) (𝓡 .run)) 𝓜 𝓡 code.env #lent·slot slot-def.routine code.calls-lent·slot (slot-thm.met 𝓤 H 𝓜 𝓖 𝓡);
-      row-at = cited 𝓤 H (RowAt 𝓤 H (𝓖 .A) (𝓜 .mem) (𝓡 .run)) 𝓜 𝓡 code.env #lent·row-at row-at-def.routine code.calls-lent·row-at (row-at-thm.met 𝓤 H 𝓜 𝓖 𝓡);
+      row-at = cited 𝓤 H (RowAt 𝓤 H (𝓖 .A) (𝓜 .mem) (𝓡 .run)) 𝓜 𝓡 code.env #rows·row-at row-at-def.routine code.calls-rows·row-at (row-at-thm.met 𝓤 H 𝓜 𝓖 𝓡);
       take = cited 𝓤 H (Take 𝓤 H (𝓖 .A) (𝓜 .mem) (𝓡 .run)) 𝓜 𝓡 code.env #tables·take take-def.routine code.calls-tables·take (take-thm.met 𝓤 H 𝓜 𝓖 𝓡);
-      put-row = cited 𝓤 H (PutRow 𝓤 H (𝓖 .A) (𝓜 .mem) (𝓡 .run)) 𝓜 𝓡 code.env #lent·put-row put-row-def.routine code.calls-lent·put-row (put-row-thm.met 𝓤 H 𝓜 𝓖 𝓡);
-      count = cited 𝓤 H (Count 𝓤 H (𝓖 .A) (𝓜 .mem) (𝓡 .run)) 𝓜 𝓡 code.env #lent·count count-def.routine code.calls-lent·count (count-thm.met 𝓤 H 𝓜 𝓖 𝓡);
+      put-row = cited 𝓤 H (PutRow 𝓤 H (𝓖 .A) (𝓜 .mem) (𝓡 .run)) 𝓜 𝓡 code.env #rows·put-row put-row-def.routine code.calls-rows·put-row (put-row-thm.met 𝓤 H 𝓜 𝓖 𝓡);
+      count = cited 𝓤 H (Count 𝓤 H (𝓖 .A) (𝓜 .mem) (𝓡 .run)) 𝓜 𝓡 code.env #rows·count count-def.routine code.calls-rows·count (count-thm.met 𝓤 H 𝓜 𝓖 𝓡);
       turn-of = cited 𝓤 H (TurnOf 𝓤 H (𝓖 .A) (𝓜 .mem) (𝓡 .run)) 𝓜 𝓡 code.env #lent·turn-of turn-of-def.routine code.calls-lent·turn-of (turn-of-thm.met 𝓤 H 𝓜 𝓖 𝓡);
     }))

@@ -59,10 +59,10 @@ use Rattle.block.proofs.Turn.Laws as N′
 use Rattle.tables.specs.declared.Tally.{Tally}
 use Rattle.tables.proofs.Tally as T
 use Rattle.tables.proofs.Tally.Laws as T′
+use Rattle.rows.proofs.Walk.{calls-exact, gone1, concluded, over}
 use Rattle.lent.specs.Entries.{stateOf, Stepped, bundled, ownedStep}
 use Rattle.lent.proofs.OwnedTurn as G
 use Rattle.lent.proofs.OwnedTurn.Laws as G′
-use Rattle.lent.proofs.Walk.{calls-exact, gone1, concluded, over}
 use Rattle.lent.proofs.Lend.{rows-lent, rows-lent-back, record-lent, record-lent-back}
 use Rattle.lent.proofs.step as step
 use Rattle.lent.proofs.step.Symbol as step-def

@@ -1,4 +1,4 @@
--- `lent::put_row` meets its contract: a walk of its MIR, by hand. The borrow is opened, the row at its place is stored to, and the borrow is closed at the list with the new row. Past the end nothing is stored.
+-- `rows::put_row` meets its contract: a walk of its MIR, by hand. The borrow is opened, the row at its place is stored to, and the borrow is closed at the list with the new row. Past the end nothing is stored.
 -- Assumes nothing.
 use mathlib.Core.Path.{_≡_, refl, sym, ap, subst}
 use Prim.Native.Nat.{ℕ, _<_, _*_, _^_}
@@ -41,11 +41,11 @@ use Rattle.object.specs.declared.Object.{Object}
 use Rattle.object.specs.Row.{dead}
 use Rattle.object.proofs.Object as O
 use Rattle.object.proofs.Object.Laws as O′
-use Rattle.lent.proofs.Walk.{forks, gone1, concluded, over}
-use Rattle.lent.proofs.put_row.Key.{name as #lent·put-row}
-use Rattle.lent.proofs.put_row as put-row
-use Rattle.lent.proofs.put_row.Statement as stated
-use Rattle.lent.proofs.put_row.Code as code
+use Rattle.rows.proofs.Walk.{forks, gone1, concluded, over}
+use Rattle.rows.proofs.put_row.Key.{name as #rows·put-row}
+use Rattle.rows.proofs.put_row as put-row
+use Rattle.rows.proofs.put_row.Statement as stated
+use Rattle.rows.proofs.put_row.Code as code
 
 abbrev stayed : Stays (put-row.ended .signature .params) (put-row.ended .kept)
 stayed = (stay-slice (0 ∷ []) tt (plain (λ _. O.the-row)), (stay-none (λ _. usize) yes, (stay-none (λ _. O.the-row) yes, tt)))
@@ -126,5 +126,5 @@ unfolding code.routine tablesOf
 put-row-spec 𝓤 H 𝓜 𝓖 𝓡 =
     concluded 𝓤 H 𝓜 𝓖 𝓡 code.env put-row.ended stayed
     (goes-slice 𝓤 H (𝓖 .A) (givenOf 𝓤 H 𝓜 𝓖) 1 0 tt (plain (λ _. O.the-row)), (goes-none 𝓤 H (𝓖 .A) (givenOf 𝓤 H 𝓜 𝓖) 1 (λ _. usize) yes (λ κs x f. refl), (goes-none 𝓤 H (𝓖 .A) (givenOf 𝓤 H 𝓜 𝓖) 1 (λ _. O.the-row) yes (λ κs x f. refl), tt)))
-    (put-row.clauses 𝓤 H (𝓖 .A) (𝓜 .mem) (𝓡 .run)) #lent·put-row code.function (code.unfolded 𝓤 H 𝓜 𝓡)
+    (put-row.clauses 𝓤 H (𝓖 .A) (𝓜 .mem) (𝓡 .run)) #rows·put-row code.function (code.unfolded 𝓤 H 𝓜 𝓡)
     (put-row-walks 𝓤 H (𝓖 .A) (givenOf 𝓤 H 𝓜 𝓖) (𝓜 .mem) (𝓡 .run) (over 𝓤 H 𝓜 𝓖 𝓡 code.env))
