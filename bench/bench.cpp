@@ -40,8 +40,7 @@ bool add(Trace &trace, const Bytes &step) {
 std::uint8_t low(std::size_t number) { return static_cast<std::uint8_t>(number); }
 
 // The shortest steps are used, so that as many as can be fit into a trace:
-// sync for all (3 bytes), arrive on an object (8), test by parity (5). Only held has longer ones:
-// sync with a count (5), pending count (10).
+// sync for all (3 bytes) or with a count (5), arrive on an object (8), test by parity (5).
 
 Bytes sync_all(std::size_t warp, std::size_t barrier) { return {0x02, low(warp), low(barrier)}; }
 
@@ -49,18 +48,16 @@ Bytes sync(std::size_t warp, std::size_t barrier, std::size_t threads) {
   return {0x03, low(warp), low(barrier), low(threads), low(threads >> 8)};
 }
 
-Bytes pending_count(std::size_t warp) { return {0x12, low(warp), 1, 0, 0, 0, 0, 0, 0, 0}; }
-
-Bytes count_step(std::size_t kind, std::size_t object) {
-  return {low(kind), 0, low(8 * object), low(8 * object >> 8), 1, 0, 0, 0};
+Bytes count_step(std::size_t kind, std::size_t object, std::size_t warp) {
+  return {low(kind), low(warp), low(8 * object), low(8 * object >> 8), 1, 0, 0, 0};
 }
 
-Bytes init(std::size_t object) { return count_step(0x07, object); }
+Bytes init(std::size_t object, std::size_t warp = 0) { return count_step(0x07, object, warp); }
 
-Bytes arrive(std::size_t object) { return count_step(0x09, object); }
+Bytes arrive(std::size_t object) { return count_step(0x09, object, 0); }
 
-Bytes test(std::size_t object, std::size_t parity) {
-  return {0x11, 0, low(8 * object), low(8 * object >> 8), low(parity)};
+Bytes test(std::size_t object, std::size_t parity, std::size_t warp = 0) {
+  return {0x11, low(warp), low(8 * object), low(8 * object >> 8), low(parity)};
 }
 
 // 32 warps meet at one barrier after the other.
@@ -71,12 +68,13 @@ Trace barriers(std::size_t steps) {
   return trace;
 }
 
-// Sixteen warps wait, each at a barrier of its own that needs two, while another asks for pending counts.
+// Sixteen warps wait, each at a barrier of its own that needs two, while another tests an object.
 Trace held(std::size_t steps) {
   Trace trace{{17}, 0};
   for (std::size_t w = 0; w < 16; ++w) add(trace, sync(w, w, 64));
+  add(trace, init(0, 16));
   while (trace.steps < steps)
-    if (!add(trace, pending_count(16))) break;
+    if (!add(trace, test(0, 0, 16))) break;
   return trace;
 }
 
