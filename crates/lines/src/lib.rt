@@ -41,6 +41,17 @@ fn put(out: &mut [u8], at: usize, from: &[u8])
     put_in(&mut *out, at, from);
 }
 
+// Lays bytes in from at on, and a byte after them; answers the place after both.
+fn put_with(out: &mut [u8], at: usize, from: &[u8], after: u8) -> usize
+    requires { ⌜ at + length (now from) < length (now out) ⌝ }
+    ensures { λ r. ⌜ (r ≡ at + length (now (from .entry)) + 1) × (now (out .exit) ≡ sets (now (out .entry)) at (now (from .entry) ++ after ∷ [])) ⌝ }
+{
+    put_in(&mut *out, at, from);
+    let end = at + from.len();
+    out[end] = after;
+    end + 1
+}
+
 // Lays a number in decimal from at on, and a byte after it; answers the place after both.
 fn put_decimal(out: &mut [u8], at: usize, n: u64, after: u8) -> usize
     requires { ⌜ at + length (decimal n) < length (now out) ⌝ }
@@ -48,9 +59,7 @@ fn put_decimal(out: &mut [u8], at: usize, n: u64, after: u8) -> usize
 {
     let mut digits = [0u8; 20];
     let k = io::decimal(n, &mut digits);
-    put_in(&mut *out, at, &digits[..k]);
-    out[at + k] = after;
-    at + k + 1
+    put_with(&mut *out, at, &digits[..k], after)
 }
 
 // Lays a set of warps as 8 hex digits from at on, and a newline after it; answers the place after both.
@@ -60,9 +69,7 @@ fn put_warps(out: &mut [u8], at: usize, set: u32) -> usize
 {
     let mut digits = [0u8; 16];
     let k = io::hex(set as u64, 8, &mut digits);
-    put_in(&mut *out, at, &digits[..k]);
-    out[at + k] = NEWLINE;
-    at + k + 1
+    put_with(&mut *out, at, &digits[..k], NEWLINE)
 }
 
 // The digit of done.
