@@ -2,6 +2,7 @@
 -- Assumes nothing.
 use mathlib.Core.Path.{_≡_, refl, sym, _∙_, ap, subst}
 use mathlib.Core.Bool.{Bool, _&&_}
+use mathlib.Core.Option.{some}
 use Prim.Native.Nat.{ℕ}
 use mathlib.Core.List.{List, [], _∷_}
 use lib.ListN.{length, getD, set, length-set}
@@ -11,7 +12,7 @@ use mir.Syntax.{named, w64}
 use mir.Val.{Val, vunit, vbool, vint, vptr}
 use base.Logic.{SProp, ent, emp, id⊢, via, fst∗}
 use base.Fml.{Lft, GName, Share, ftrue, flft, fobs, fbor}
-use prog.Memory.{Memory}
+use prog.Memory.{Memory, fieldOf}
 use prog.Routine.{Routine}
 use prog.Wp.{Heap, Calls, Loops, WpFn, Tables}
 use ghost.Atoms.{Atoms}
@@ -137,6 +138,13 @@ module _ {M : Type 1} (𝓤 : URA M) (H : Heap 𝓤) (A : Atoms 𝓤) (at-mem : 
     pub count : Triple 𝓤 (C #rows·count) Count
     pub turn-of : Triple 𝓤 (C #lent·turn-of) TurnOf
 
+-- where a step that was taken has its verdict and its row; said here, so that the walk does not measure the block in between
+verdict-at : fieldOf U′.mir 0 ≡ some (E′.mir, 0)
+verdict-at = refl
+
+object-at : fieldOf U′.mir 2 ≡ some (O′.mir, 540)
+object-at = refl
+
 -- what the calls answer one after the other: whether the rows are sound, the row that is named, a copy of it, and the step taken on it
 record Goes (d : Block) (ys : List Object) (s : Step) (f : Bool) (i : ℕ) (e : Object) (u : Taken) : Type 0 where
   fine : f ≡ soundObjects ys
@@ -234,13 +242,13 @@ module _ {M : Type 1} (𝓤 : URA M) (H : Heap 𝓤) (A : Atoms 𝓤) (W : Given
         (λ _. (uint-makes 𝓤 H A W w64, (LL.makes O.the-type O′.the-plain 𝓤 H A, tt))) (λ _. vunit) nothing-tells
         (row O.the-row fullShare zs b o) (rows-lent 𝓤 H A W O.the-row b o ys room) (λ _. (i, (u .object, tt))) (λ _. (vint w64 i ∷ [], (mach-row (u .object) ∷ [], tt))) (λ _. (is-i, (is-object is-u, tt))) (λ _ _. tt) (λ _ _. id⊢ 𝓤 _) tt (λ _ _ _ w. w ≡ zs) (λ _ _ a ws. id⊢ 𝓤 _)
         (λ α δ a w eq. (refl, subst (λ (l : List Object). Back 𝓤 H A (mutSliceOf (0 ∷ []) tt (plain (λ _. O.the-row))) (row O.the-row fullShare ys b o) (rows-lent 𝓤 H A W O.the-row b o ys room) yes α δ w (row O.the-row fullShare l b o)) eq (rows-lent-back 𝓤 H A W O.the-row b o ys room α δ w)))
-        (λ _ _. and-then ! (load ! (from ! (stop !)) (look ! 15 refl)) (and-then ! (load ! (from ! (stop !)) (look ! 33 refl)) (and-then ! (load ! (from ! (fld ! refl (stop !))) (look-in ! 29 (sub ! 2 refl (whole !)))) (no-more !)))) (λ _. land ! (from ! (stop !)) (init ! 18 refl (tt, tt)) $
+        (λ _ _. and-then ! (load ! (from ! (stop !)) (look ! 15 refl)) (and-then ! (load ! (from ! (stop !)) (look ! 33 refl)) (and-then ! (load ! (from ! (fld ! object-at (stop !))) (look-in ! 29 (sub ! 2 object-at (whole !)))) (no-more !)))) (λ _. land ! (from ! (stop !)) (init ! 18 refl (tt, tt)) $
         -- the tally counts
         assigns ! (addr ! (from ! (hop ! (look ! 38 refl) (stop !)))) (from ! (stop !)) (init ! 12 refl (tt, tt)) $ move ! (1 ∷ []) $
         calls-lending ! fm (mutRefTo (0 ∷ []) tt (plain (λ _. T.the-row))) (plain (λ _. E.the-row) ∷ []) Nothing yes (yes, tt) (count.clauses 𝓤 H A at-mem run) (known .count) (λ _. (LE.makes E.the-type E′.the-plain 𝓤 H A, tt)) (λ _. vunit) nothing-tells
         (partAt T.the-row fullShare h′ b′ o′) (record-lent 𝓤 H A W T.the-row b′ o′ h) (λ _. (u .verdict, tt)) (λ _. (LE.vals E.the-type E′.the-laws (u .verdict), tt)) (λ _. (is-verdict is-u, tt)) (λ _ _. tt) (λ _ _. id⊢ 𝓤 _) tt (λ _ _ _ w. w ≡ h′) (λ _ _ a ws. id⊢ 𝓤 _)
         (λ α δ a w eq. (refl, subst (λ (l : Tally). Back 𝓤 H A (mutRefTo (0 ∷ []) tt (plain (λ _. T.the-row))) (partAt T.the-row fullShare h b′ o′) (record-lent 𝓤 H A W T.the-row b′ o′ h) yes α δ w (partAt T.the-row fullShare l b′ o′)) eq (record-lent-back 𝓤 H A W T.the-row b′ o′ h α δ w)))
-        (λ _ _. and-then ! (load ! (from ! (stop !)) (look ! 13 refl)) (and-then ! (load ! (from ! (fld ! refl (stop !))) (look-in ! 29 (sub ! 0 refl (whole !)))) (no-more !))) (λ _. land ! (from ! (stop !)) (store ! 18 refl (tt, tt)) $
+        (λ _ _. and-then ! (load ! (from ! (stop !)) (look ! 13 refl)) (and-then ! (load ! (from ! (fld ! verdict-at (stop !))) (look-in ! 29 (sub ! 0 verdict-at (whole !)))) (no-more !))) (λ _. land ! (from ! (stop !)) (store ! 18 refl (tt, tt)) $
         -- the answer
         calls-exact ! fm (turn-of.signature .params) N.the-row (turn-of.ended .kept) (turn-of.clauses 𝓤 H A at-mem run) (known .turn-of) (LL.makes U.the-type U′.the-plain 𝓤 H A, tt) (LL.val N.the-type N′.the-laws) (LL.tells N.the-type N′.the-laws)
         (u, tt) (LL.vals U.the-type U′.the-laws u, tt) (is-u, tt) tt (id⊢ 𝓤 _) r (λ a _. id⊢ 𝓤 _) (and-then ! (load ! (from ! (stop !)) (look ! 29 refl)) (no-more !)) (λ is-r. land ! (from ! (stop !)) (init ! 44 refl (LL.lawful N.the-type N′.the-laws 𝓤 H A W .typed r _ is-r .0)) $
