@@ -17,7 +17,7 @@ ghost use Rattle.block.specs.Rows.{resultOf, releasedWarp};
 ghost use Rattle.barriers.specs.Steps.{warpRefusal, arrivalRefusal, releasedWarps, completed, goesOn, arrival as arrivalOf, without as withoutOf, opened as openedOf, exit as exitOf};
 
 // The warps of the block that have not exited.
-pub fn live(b: Block) -> u32
+fn live(b: Block) -> u32
     ensures { λ r. ⌜ r ≡ liveOf b ⌝ }
 {
     let n = b.warps;
