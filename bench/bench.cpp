@@ -22,7 +22,7 @@ using Bytes = std::vector<std::uint8_t>;
 
 constexpr std::size_t longest_trace = 65536;
 constexpr std::size_t lengths[] = {1000, 8000, 32000};
-constexpr int all_runs = 15, few_runs = 3;
+constexpr int all_runs = 60, few_runs = 3;
 
 struct Trace {
   Bytes bytes;

@@ -2,7 +2,7 @@
 use text::Laid;
 ghost use mathlib.Core.Path.{_≡_};
 ghost use Rattle.fields.specs.Num.{laid};
-ghost use Rattle.text.specs.Text.{textOf, roomFor};
+ghost use Rattle.printed.specs.Text.{textOf, roomFor};
 ghost use Rattle.text.specs.Buffer.{answerOf};
 ghost use Rattle.archive.specs.Archive.{numberOf};
 

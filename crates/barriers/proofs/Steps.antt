@@ -2,23 +2,46 @@
 -- Assumes nothing.
 use mathlib.Core.Path.{_≡_, refl, sym, ap, subst, _∙_}
 use mathlib.Core.Bool.{Bool, true, false, cond, _&&_}
-use mathlib.Core.List.{[], _∷_}
 use Prim.Native.Nat.{ℕ, _<_, _≤_}
 use lib.Dec.{eqb, ltb}
 use lib.ListN.{length, set}
 use lib.Seq.{set-out}
-use borrow.Author.Tests.{ne-eqb, lt-ltb, le-ltb, ltb-false, leb-false}
+use borrow.Author.Tests.{ne-eqb, lt-ltb, le-ltb, ltb-false, le-leb, lt-leb}
 use Rattle.folds.specs.Folds.{lowest}
-use Rattle.folds.proofs.Folds.{none-at}
+use Rattle.sets.specs.Sets.{has}
 use Rattle.block.specs.Tables.{barrierCount, isIdle, barrierAt, liveOf}
-use Rattle.block.specs.Rows.{arrivedRow, completes}
-use Rattle.barriers.specs.Steps.{noSuchWarp, notReady, noSuchBarrier, badThreads, clashes, alreadyArrived, warpRefusal, arrivalRefusal, completed, goesOn, refused, arrival, without, opened, exit}
+use Rattle.block.specs.Rows.{badCount, differs, arrivedRow, completes}
+use Rattle.barriers.specs.Steps.{noSuchWarp, notReady, noSuchBarrier, warpRefusal, arrivalRefusal, callRefusal, completed, goesOn, refused, arrival, without, opened, exit}
 use Rattle.block.specs.declared.Verdict.the-variants.{Accepted}
 use Rattle.block.specs.declared.Barrier.{Barrier}
 use Rattle.block.specs.declared.Block.{Block}
 use Rattle.block.specs.declared.Call.{Call}
 
 -- ---- which line refuses an arrival
+
+module _ (n : ℕ) (r : Barrier) (w : ℕ) (c : Call) where
+  pub line-7 : badCount n (c .threads) ≡ true → 7 ≡ callRefusal n r w c
+  unfolding callRefusal lowest
+  line-7 e = rw e
+
+  module _ (no-7 : badCount n (c .threads) ≡ false) where
+    pub line-8 : isIdle (c .form) ≡ true → 8 ≡ callRefusal n r w c
+    unfolding callRefusal lowest
+    line-8 e = rw (no-7, e)
+
+    module _ (no-8 : isIdle (c .form) ≡ false) where
+      pub line-9 : differs r c ≡ true → 9 ≡ callRefusal n r w c
+      unfolding callRefusal lowest
+      line-9 e = rw (no-7, no-8, e)
+
+      module _ (no-9 : differs r c ≡ false) where
+        pub line-10 : has (r .arrived) w ≡ true → 10 ≡ callRefusal n r w c
+        unfolding callRefusal lowest
+        line-10 e = rw (no-7, no-8, no-9, e)
+
+        pub no-line : has (r .arrived) w ≡ false → 0 ≡ callRefusal n r w c
+        unfolding callRefusal lowest
+        no-line e = rw (no-7, no-8, no-9, e)
 
 -- lines 4 and 5 come before the others
 first-lines : (s t : Bool) (m : ℕ) → cond s 4 (cond t 5 m) ≡ cond (eqb (cond s 4 (cond t 5 0)) 0) m (cond s 4 (cond t 5 0))
@@ -27,46 +50,21 @@ first-lines false true m = refl
 first-lines false false m = refl
 
 module _ (b : Block) (w k : ℕ) (c : Call) where
+  -- an arrival's line is the warp's, then 6, then the call's
   arrival-lines : arrivalRefusal b w k c
-      ≡ cond (eqb (warpRefusal b w) 0)
-      (lowest (
-      (noSuchBarrier k, 6) ∷ (badThreads b (c .threads), 7) ∷ (isIdle (c .form), 8) ∷ (clashes b k c, 9) ∷ (alreadyArrived b k w, 10) ∷ []
-      ))
-      (warpRefusal b w)
-  unfolding arrivalRefusal warpRefusal lowest
+      ≡ cond (eqb (warpRefusal b w) 0) (cond (noSuchBarrier k) 6 (callRefusal (b .warps) (barrierAt b k) w c)) (warpRefusal b w)
+  unfolding arrivalRefusal warpRefusal callRefusal lowest
   arrival-lines = first-lines (noSuchWarp b w) (notReady b w) _
 
   pub warp-line : (n : ℕ) → n ≡ warpRefusal b w → (n ≡ 0 → ⊥) → n ≡ arrivalRefusal b w k c
   warp-line n e h = rw (arrival-lines, ← e, ne-eqb n 0 h)
 
   module _ (free : warpRefusal b w ≡ 0) where
-    pub line-6 : noSuchBarrier k ≡ true → 6 ≡ arrivalRefusal b w k c
-    unfolding lowest
-    line-6 e = rw (arrival-lines, free, e)
+    pub line-6 : barrierCount ≤ k → 6 ≡ arrivalRefusal b w k c
+    line-6 h = rw (arrival-lines, free, le-leb barrierCount k h)
 
-    module _ (no-6 : noSuchBarrier k ≡ false) where
-      pub line-7 : badThreads b (c .threads) ≡ true → 7 ≡ arrivalRefusal b w k c
-      unfolding lowest
-      line-7 e = rw (arrival-lines, free, no-6, e)
-
-      module _ (no-7 : badThreads b (c .threads) ≡ false) where
-        pub line-8 : isIdle (c .form) ≡ true → 8 ≡ arrivalRefusal b w k c
-        unfolding lowest
-        line-8 e = rw (arrival-lines, free, no-6, no-7, e)
-
-        module _ (no-8 : isIdle (c .form) ≡ false) where
-          pub line-9 : clashes b k c ≡ true → 9 ≡ arrivalRefusal b w k c
-          unfolding lowest
-          line-9 e = rw (arrival-lines, free, no-6, no-7, no-8, e)
-
-          module _ (no-9 : clashes b k c ≡ false) where
-            pub line-10 : alreadyArrived b k w ≡ true → 10 ≡ arrivalRefusal b w k c
-            unfolding lowest
-            line-10 e = rw (arrival-lines, free, no-6, no-7, no-8, no-9, e)
-
-            pub no-line : alreadyArrived b k w ≡ false → 0 ≡ arrivalRefusal b w k c
-            unfolding lowest
-            no-line e = rw (arrival-lines, free, no-6, no-7, no-8, no-9, e)
+    pub call-line : k < barrierCount → (n : ℕ) → n ≡ callRefusal (b .warps) (barrierAt b k) w c → n ≡ arrivalRefusal b w k c
+    call-line h n e = rw (arrival-lines, free, lt-leb barrierCount k h, ← e)
 
 -- ---- the ends of an arrival
 
@@ -78,11 +76,6 @@ goes-on-kept b k r w true l e = rw (set-out (b .rows) w _ (rw l (ltb-false w 32 
 goes-on-kept b k r w false l e = refl
 
 module _ (b : Block) (w k : ℕ) (c : Call) where
-  -- an arrival that no line refuses is at a barrier that there is
-  pub barrier-there : arrivalRefusal b w k c ≡ 0 → k < barrierCount
-  unfolding arrivalRefusal
-  barrier-there e = leb-false barrierCount k (none-at _ refl e 2)
-
   pub is-refused : (n : ℕ) → n ≡ arrivalRefusal b w k c → (n ≡ 0 → ⊥) → refused b n ≡ arrival b w k c
   unfolding arrival
   is-refused n e h = rw (← e, ne-eqb n 0 h)

@@ -62,6 +62,11 @@ arrivalRefusal b w k c =
     ∷ []
     )
 
+-- the lowest of lines 7 to 10, of a call of warp w at a barrier of row r, in a block of so many warps
+unfoldable pub callRefusal : ℕ → Barrier → ℕ → Call → ℕ
+callRefusal warps r w c =
+    lowest ((badCount warps (c .threads), 7) ∷ (isIdle (c .form), 8) ∷ (differs r c, 9) ∷ (has (r .arrived) w, 10) ∷ [])
+
 -- ---- an arrival
 
 -- the warp rows with the waiting warps released

@@ -10,22 +10,27 @@ use block::Verdict;
 use block::Warp;
 ghost use mathlib.Core.Path.{_≡_};
 ghost use mathlib.Core.Bool.{cond};
+ghost use mathlib.Core.List.{[]};
 ghost use Prim.Native.Nat.{_<_};
 ghost use Rattle.sets.specs.Sets.{has};
 ghost use Rattle.block.specs.Tables.{barrierCount, liveOf};
 ghost use Rattle.block.specs.Rows.{resultOf, releasedWarp};
-ghost use Rattle.barriers.specs.Steps.{warpRefusal, arrivalRefusal, releasedWarps, completed, goesOn, arrival as arrivalOf, without as withoutOf, opened as openedOf, exit as exitOf};
+ghost use Rattle.barriers.specs.Steps.{warpRefusal, callRefusal, refused, releasedWarps, completed, goesOn, arrival as arrivalOf, without as withoutOf, opened as openedOf, exit as exitOf};
 
-// The warps of the block that have not exited.
-fn live(b: Block) -> u32
-    ensures { λ r. ⌜ r ≡ liveOf b ⌝ }
+// The warps that have not exited, of a block of so many warps and these rows.
+fn live(warps: u8, rows: [Warp; MOST_WARPS as usize]) -> u32
+    ensures { λ r. ⌜ r ≡ liveOf (record { warps = warps; rows = rows; barriers = [] }) ⌝ }
 {
-    let n = b.warps;
+    let n = if warps < MOST_WARPS {
+        warps
+    } else {
+        MOST_WARPS
+    };
     let mut set: u32 = 0;
     let mut w: u8 = 0;
-    while w < MOST_WARPS {
-        let row = b.rows[w as usize];
-        set += (block::is_live(n, w, row) as u32) << (w as u32);
+    while w < n {
+        let row = rows[w as usize];
+        set += (block::is_live(warps, w, row) as u32) << (w as u32);
         w += 1;
     }
     set
@@ -47,20 +52,12 @@ pub fn warp_refusal(b: Block, w: u8) -> u8
     0
 }
 
-// The lowest line that applies to the arrival of warp w at barrier k, and 0 if none does.
-fn arrival_refusal(b: Block, w: u8, k: u8, c: Call) -> u8
-    ensures { λ r. ⌜ r ≡ arrivalRefusal b w k c ⌝ }
+// The lowest of lines 7 to 10 that applies to the call of warp w at a barrier of row r, in a block of so many warps, and 0 if none does.
+fn call_refusal(warps: u8, r: Barrier, w: u8, c: Call) -> u8
+    ensures { λ t. ⌜ t ≡ callRefusal warps r w c ⌝ }
 {
-    let n = warp_refusal(b, w);
-    if n != 0 {
-        return n;
-    }
-    if BARRIER_COUNT <= k {
-        return 6;
-    }
-    let r = b.barriers[k as usize];
     let t = c.threads;
-    if block::rows::bad_count(b.warps, t) {
+    if block::rows::bad_count(warps, t) {
         return 7;
     }
     let f = c.form;
@@ -74,6 +71,16 @@ fn arrival_refusal(b: Block, w: u8, k: u8, c: Call) -> u8
         return 10;
     }
     0
+}
+
+// A step refused with line n leaves the block.
+fn refuse(b: Block, n: u8) -> Turn
+    ensures { λ t. ⌜ t ≡ refused b n ⌝ }
+{
+    Turn {
+        verdict: Verdict::Refused(n),
+        block: b,
+    }
 }
 
 // The row of a warp after the barrier of row r, whose result is value, has completed.
@@ -163,16 +170,21 @@ fn go_on(mut b: Block, k: u8, r: Barrier, w: u8, waits: bool) -> Turn
 pub fn arrival(b: Block, w: u8, k: u8, c: Call) -> Turn
     ensures { λ t. ⌜ t ≡ arrivalOf b w k c ⌝ }
 {
-    let n = arrival_refusal(b, w, k, c);
+    let n = warp_refusal(b, w);
     if n != 0 {
-        return Turn {
-            verdict: Verdict::Refused(n),
-            block: b,
-        };
+        return refuse(b, n);
+    }
+    if BARRIER_COUNT <= k {
+        return refuse(b, 6);
     }
     let before = b.barriers[k as usize];
+    let m = call_refusal(b.warps, before, w, c);
+    if m != 0 {
+        return refuse(b, m);
+    }
     let r = block::rows::arrived_row(before, w, c);
-    if block::rows::completes(live(b), r) {
+    let rows = b.rows;
+    if block::rows::completes(live(b.warps, rows), r) {
         return complete(b, k, r);
     }
     go_on(b, k, r, w, c.waits)
@@ -196,7 +208,8 @@ fn without(mut b: Block, w: u8) -> Block
 fn opened(b: Block) -> u8
     ensures { λ r. ⌜ r ≡ openedOf b ⌝ }
 {
-    let alive = live(b);
+    let rows = b.rows;
+    let alive = live(b.warps, rows);
     let mut k: u8 = 0;
     while k < BARRIER_COUNT {
         let r = b.barriers[k as usize];
@@ -215,10 +228,7 @@ pub fn exit(b: Block, w: u8) -> Turn
 {
     let n = warp_refusal(b, w);
     if n != 0 {
-        return Turn {
-            verdict: Verdict::Refused(n),
-            block: b,
-        };
+        return refuse(b, n);
     }
     let e = without(b, w);
     let k = opened(e);

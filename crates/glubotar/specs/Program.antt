@@ -2,13 +2,18 @@
 -- Assumes nothing.
 use mathlib.Core.Path.{_≡_}
 use mathlib.Core.List.{List, _++_}
-use Prim.Native.Nat.{ℕ, _≤_}
+use mathlib.Core.Bool.{Bool, true, false, cond, _&&_}
+use Prim.Native.Nat.{ℕ, _+_, _-_, _≤_, _<_, min}
+use lib.IntN.{pos}
+use lib.Signed.{ltZ}
 use lib.ListN.{length, take, drop}
 use Rattle.io.specs.Counts.{Counts}
-use Rattle.text.specs.Text.{textOf}
+use Rattle.printed.specs.Text.{textOf}
 use Rattle.glubotar.specs.declared.input.Read.{Read}
+use Rattle.glubotar.specs.declared.input.Failure.{Failure}
 use Rattle.glubotar.specs.declared.input.Filled.{Filled}
 use Rattle.glubotar.specs.declared.input.Filled.the-variants.{Bytes, Failed}
+use Rattle.glubotar.specs.declared.output.Written.{Written}
 
 -- the bytes that were read
 abbrev pub readOf : Read → List ℕ → List ℕ
@@ -18,10 +23,26 @@ readOf read buf = take (read .len) buf
 abbrev pub Settled : List ℕ → Type 0
 Settled s = (more : List ℕ) → textOf (s ++ more) ≡ textOf s
 
--- reading a trace into a buffer: so many bytes at its start; where they fill it, the input may have more, and the text is settled all the same
-abbrev pub Fills : Filled → List ℕ → Type 0
-Fills (Bytes read) buf = Counts (read .len) buf × (read .len ≡ length buf → Settled (readOf read buf))
-Fills Failed buf = Unit
+-- how many bytes the path of a trace file has
+abbrev pub pathOf : Filled → ℕ
+pathOf (Bytes read) = read .path
+pathOf (Failed failure) = failure .path
+
+-- reading a trace into a buffer: which one was asked for, and so many bytes at the buffer's start; where they fill it, the input may have more, and the text is settled all the same
+pub record Reads (number : ℕ) (read : Read) (buf : List ℕ) : Type 0 where
+  pub asked : read .number ≡ number
+  pub counts : Counts (read .len) buf
+  pub full : read .len ≡ length buf → Settled (readOf read buf)
+
+-- a trace that can't be read: which one was asked for, and an answer of the C library below zero
+pub record Fails (number : ℕ) (failure : Failure) : Type 0 where
+  pub asked : failure .number ≡ number
+  pub below : ltZ (failure .answer) (pos 0) ≡ true
+
+-- the trace that an argument names, or standard input where the number is 0, is read or can't be read
+abbrev pub Fills : ℕ → Filled → List ℕ → Type 0
+Fills number (Bytes read) buf = Reads number read buf
+Fills number (Failed failure) buf = Fails number failure
 
 -- a buffer starts with the text of a trace
 abbrev pub Holds : List ℕ → List ℕ → Type 0
@@ -35,3 +56,38 @@ pub record LaysWhole (s before : List ℕ) (r : ℕ) (after : List ℕ) : Type 0
   pub rest : drop r after ≡ drop r before
   pub counts : Counts r after
   pub text : take r after ≡ textOf s
+
+-- the number after n, up to the largest that a counter holds
+abbrev pub next : ℕ → ℕ
+next n = min (n + 1) 18446744073709551615
+
+-- nothing is written, and no write failed
+abbrev pub nothing : Written
+nothing = record { input = false; files = 0; all = true }
+
+-- standard input is answered, or the write failed
+abbrev pub inputAnswered : Bool → Written
+inputAnswered done = record { input = done; files = 0; all = done }
+
+-- one more file is answered
+abbrev pub oneMore : Written → Written
+oneMore w = record { input = w .input; files = next (w .files); all = true }
+
+-- a write failed
+abbrev pub failed : Written → Written
+failed w = record { input = w .input; files = w .files; all = false }
+
+-- what was written, and the answer to the next file after it, where that was written; what follows a write that failed is not counted
+abbrev pub plusFile : Written → Bool → Written
+plusFile w done = cond (w .all && done) (oneMore w) (failed w)
+
+-- so many arguments, the program's own name first: where no write failed each of the others is answered, and else fewer are
+pub record FilesAnswered (count : ℕ) (w : Written) : Type 0 where
+  pub input : w .input ≡ false
+  pub each : w .all ≡ true → w .files ≡ count - 1
+  pub fewer : w .all ≡ false → w .files < count - 1
+
+-- every trace is answered: standard input where no argument names a file, and else each file
+pub record Answered (count : ℕ) (w : Written) : Type 0 where
+  pub input : count < 2 → w ≡ inputAnswered (w .all)
+  pub files : 2 ≤ count → FilesAnswered count w

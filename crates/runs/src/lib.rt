@@ -45,7 +45,7 @@ pub fn start(warps: u8) -> Run
 }
 
 // The number of the next line.
-fn number_in(lines: Tally) -> u64
+pub fn number_in(lines: Tally) -> u64
     ensures { λ r. ⌜ r ≡ numberIn lines ⌝ }
 {
     (lines.accepted as u64) + (lines.refused as u64) + 1

@@ -1,23 +1,19 @@
 -- The warp rows' soundness, in the order in which the check asks: the rows past the number of warps, then the warps.
 -- Assumes nothing.
 use mathlib.Core.Path.{_≡_, refl, sym, _∙_}
-use mathlib.Core.Bool.{Bool, true, false, _&&_, and-true, false≢true}
-use mathlib.Core.List.{List}
+use mathlib.Core.Bool.{Bool, true, false, _&&_, and-true}
 use Prim.Native.Nat.{ℕ, _+_, _≤_, _<_}
 use native.Mathlib.Decide.{ℕ-discrete}
 use native.Mathlib.Omega.{arith}
 use lib.Dec.{eqb, ltb}
-use lib.ListN.{getD, set}
-use lib.Seq.{getD-set-other}
 use borrow.Author.Tests.{lt-ltb, le-ltb, ltb-true, ltb-false}
 use Rattle.folds.specs.Folds.{all}
-use Rattle.folds.proofs.Folds.{and-left, all-at, all-of}
+use Rattle.folds.proofs.Folds.{all-at, all-of}
 use Rattle.block.specs.declared.Status.{Status}
 use Rattle.block.specs.declared.Status.the-variants.{Ready, Waiting, Exited}
 use Rattle.block.specs.declared.Warp.{Warp}
 use Rattle.block.specs.declared.Block.{Block}
-use Rattle.block.specs.Tables.{mostWarps, barrierCount, warpAt, isReady, waitsPlaced, warpSound}
-use Rattle.soundness.specs.Places.{placeOf, Listed}
+use Rattle.block.specs.Tables.{mostWarps, warpAt, isReady, waitsPlaced, warpSound}
 
 -- a row as it is at the start: ready with result 0
 abbrev pub isFresh : Warp → Bool
@@ -27,21 +23,12 @@ isFresh r = isReady (r .status) && eqb (r .result) 0
 abbrev pub FreshTo : Block → ℕ → Type 0
 FreshTo b w = (v : ℕ) → b .warps ≤ v → v < w → isFresh (warpAt b v) ≡ true
 
--- from place w on nothing is listed
-abbrev pub Unlisted : ℕ → List ℕ → Type 0
-Unlisted w places = (v : ℕ) → w ≤ v → v < mostWarps → getD places v 0 ≡ barrierCount
-
 -- ---- one row
 
 ready-placed : (s : Status) (z : Bool) → isReady s && z ≡ (isReady s && z) && waitsPlaced s
 ready-placed Ready z = sym (and-true z)
 ready-placed (Waiting k) z = refl
 ready-placed Exited z = refl
-
-fresh-place : (s : Status) → isReady s ≡ true → placeOf s ≡ barrierCount
-fresh-place Ready e = refl
-fresh-place (Waiting k) e = absurd (false≢true e)
-fresh-place Exited e = refl
 
 module _ (n w : ℕ) (r : Warp) where
   -- the row of a warp of the block
@@ -64,19 +51,6 @@ module _ (b : Block) (spare : FreshTo b mostWarps) where
       go : (v : ℕ) → v < mostWarps → (t : Bool) → ltb v n ≡ t → warpSound n v (warpAt b v) ≡ true
       go v l true e = let m = ltb-true v n e in sym (own-row n v (warpAt b v) m) ∙ all-at _ n v m own
       go v l false e = let m = ltb-false v n e in sym (spare-row n v (warpAt b v) m) ∙ spare v m l
-
-  pub all-listed : (places : List ℕ) → Listed n places b → Unlisted n places → Listed mostWarps places b
-  all-listed places own rest v l = go (ltb v n) refl
-    where
-      go : (t : Bool) → ltb v n ≡ t → getD places v 0 ≡ placeOf (warpAt b v .status)
-      go true e = own v (ltb-true v n e)
-      go false e =
-          let m = ltb-false v n e in
-          rest v m l ∙ sym (fresh-place (warpAt b v .status) (and-left _ (eqb (warpAt b v .result) 0) (spare v m l)))
-
--- one more place is listed, and the others stay unlisted
-pub unlisted-more : (places : List ℕ) (w p : ℕ) → Unlisted w places → Unlisted (w + 1) (set places w p)
-unlisted-more places w p rest v l m = getD-set-other places w v p 0 (λ q. omega (arith, l, q)) ∙ rest v (omega (arith, l)) m
 
 -- one more row is fresh
 pub fresh-more : (b : Block) (w : ℕ) → FreshTo b w → isFresh (warpAt b w) ≡ true → FreshTo b (w + 1)

@@ -11,20 +11,8 @@ ghost use mathlib.Core.Bool.{_&&_, Bool·beq};
 ghost use Prim.Native.Nat.{_*_};
 ghost use lib.Dec.{eqb};
 ghost use Rattle.sets.specs.Sets.{has, size};
-ghost use Rattle.block.specs.Tables.{laneCount, isReady, waitsPlaced, setsInside, waitingArrived, idleZero, activeArrived, activeCount, countOpen, allOpen, reductionWaits, plainNone, rowSound, rowsFine, agreeing, soundBlock};
-ghost use Rattle.soundness.specs.Places.{placeOf, Listed};
-
-// The barrier at which the warp waits; 16, which no barrier is, where it waits at none.
-fn place_of(row: Warp) -> u8
-    ensures { λ r. ⌜ r ≡ placeOf (row .status) ⌝ }
-{
-    let s = row.status;
-    match s {
-        Status::Ready => BARRIER_COUNT,
-        Status::Waiting(at) => at,
-        Status::Exited => BARRIER_COUNT,
-    }
-}
+ghost use Rattle.block.specs.Tables.{laneCount, isReady, waitsPlaced, setsInside, waitingArrived, idleZero, activeArrived, activeCount, countOpen, allOpen, reductionWaits, plainNone, rowSound, soundBlock};
+ghost use Rattle.soundness.specs.Waiters.{allSound, allAlike};
 
 // Whether the warp, if it waits, waits at a barrier that there is.
 fn waits_placed(row: Warp) -> bool
@@ -45,11 +33,11 @@ fn is_fresh(row: Warp) -> bool
     block::is_ready(row) & (row.result == 0)
 }
 
-// Whether barrier k, of row r, and warp w agree: its waiting set has the warp exactly when that is the warp's place.
-fn agree(r: Barrier, k: u8, w: u8, place: u8) -> bool
-    ensures { λ t. ⌜ t ≡ Bool·beq (has (r .waiting) w) (eqb place k) ⌝ }
+// Whether barrier row r and the warps that wait there agree about warp w: both sets have it or neither does.
+fn agree(r: Barrier, here: u32, w: u8) -> bool
+    ensures { λ t. ⌜ t ≡ Bool·beq (has (r .waiting) w) (has here w) ⌝ }
 {
-    sets::has(r.waiting, w) == (place == k)
+    sets::has(r.waiting, w) == sets::has(here, w)
 }
 
 // Whether the row, if it is idle, is all zero.
@@ -121,22 +109,25 @@ fn row_sound(n: u8, live: u32, r: Barrier) -> bool
     count_sound(n, r, lanes) & lanes_sound(r, lanes)
 }
 
-// Whether every barrier row is sound and agrees with every warp, whose places are listed; the first disagreement ends the check.
-fn rows_agree(b: Block, alive: u32, places: [u8; MOST_WARPS as usize]) -> bool
-    requires { ⌜ Listed 32 places b ⌝ }
-    ensures { λ r. ⌜ r ≡ rowsFine b alive && agreeing b ⌝ }
+// Whether every barrier row is sound and agrees about every warp with who waits there; the first disagreement ends the check.
+fn rows_agree(
+    n: u8,
+    barriers: [Barrier; BARRIER_COUNT as usize],
+    alive: u32,
+    here: [u32; BARRIER_COUNT as usize],
+) -> bool
+    ensures { λ r. ⌜ r ≡ allSound n alive barriers && allAlike barriers here ⌝ }
 {
-    let n = b.warps;
     let mut ok = true;
     let mut k: u8 = 0;
     'rows: while k < BARRIER_COUNT {
-        let barrier = b.barriers[k as usize];
+        let barrier = barriers[k as usize];
         if !row_sound(n, alive, barrier) {
             return false;
         }
         let mut w: u8 = 0;
         while w < MOST_WARPS {
-            ok = agree(barrier, k, w, places[w as usize]);
+            ok = agree(barrier, here[k as usize], w);
             if !ok {
                 break 'rows;
             }
@@ -147,7 +138,7 @@ fn rows_agree(b: Block, alive: u32, places: [u8; MOST_WARPS as usize]) -> bool
     ok
 }
 
-// Whether the block's tables are sound: the rows past the number of warps, then the warps, whose places are listed, and last the barriers.
+// Whether the block's tables are sound: the rows past the number of warps, then the warps, who are gathered where they wait, and last the barriers.
 pub fn sound(b: Block) -> bool
     ensures { λ r. ⌜ r ≡ soundBlock b ⌝ }
 {
@@ -164,16 +155,24 @@ pub fn sound(b: Block) -> bool
         spare += 1;
     }
     let mut alive: u32 = 0;
-    let mut places = [BARRIER_COUNT; MOST_WARPS as usize];
+    let mut here = [0; BARRIER_COUNT as usize];
     let mut w: u8 = 0;
     while w < n {
         let row = b.rows[w as usize];
         if !waits_placed(row) {
             return false;
         }
-        places[w as usize] = place_of(row);
         alive += (block::is_live(n, w, row) as u32) << (w as u32);
+        let s = row.status;
+        match s {
+            Status::Ready => {}
+            Status::Waiting(at) => {
+                here[at as usize] += 1 << (w as u32);
+            }
+            Status::Exited => {}
+        }
         w += 1;
     }
-    rows_agree(b, alive, places)
+    let barriers = b.barriers;
+    rows_agree(n, barriers, alive, here)
 }

@@ -1,4 +1,1 @@
-pub mod Text
-pub mod Turns
-pub mod Laws
 pub mod Buffer

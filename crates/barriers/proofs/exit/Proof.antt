@@ -8,8 +8,11 @@ use Rattle.barriers.proofs.exit.Tie as tie
 warp-refusal-requires : tie.Need-warp-refusal-requires
 warp-refusal-requires c κs = search needs
 
+refuse-requires : tie.Need-refuse-requires
+refuse-requires c κs = search needs
+
 returns : tie.Need-returns
-returns c = exit-refused _ _ _ (c .before .warp-refusal .ensures) (c .if1 .taken)
+returns c = c .refuse .ensures ∙ exit-refused _ _ _ (c .before .before .warp-refusal .ensures) (c .before .if1 .taken)
 
 without-requires : tie.Need-without-requires
 without-requires c κs = search needs
@@ -48,6 +51,7 @@ exit-spec =
     tie.close
     (tie.spec
     warp-refusal-requires
+    refuse-requires
     returns
     without-requires
     opened-requires

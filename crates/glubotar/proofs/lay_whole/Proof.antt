@@ -1,14 +1,25 @@
 -- `glubotar::lay_whole` meets its contract: the room is enough for the text of any trace, so the library never answers that it is short.
 -- Assumes nothing.
-use mathlib.Core.Path.{sym, _∙_}
+use mathlib.Core.Path.{sym, subst, _∙_}
+use Prim.Native.Nat.{ℕ}
 use native.Mathlib.Omega.{arith}
 use borrow.Author.Needs.{needs}
 use denote.Ref.{now}
-use Rattle.text.specs.Text.{textOf}
+use lib.ListN.{take}
+use lib.Seq.{length-take-le}
+use Rattle.printed.specs.Text.{textOf}
 use Rattle.text.proofs.Buffer.{laid-start}
+use Rattle.glubotar.specs.Program.{LaysWhole}
 use Rattle.glubotar.proofs.Program.{text-fits, never-short, lays-whole}
 use Rattle.glubotar.proofs.lay_whole.Statement.{statement}
 use Rattle.glubotar.proofs.lay_whole.Tie as tie
+
+size-requires : tie.Need-size-requires
+size-requires c κs = search needs
+
+slice-aggregate-lay : tie.Need-slice-aggregate-lay
+slice-aggregate-lay c =
+    sym (length-take-le _ _ (omega (arith, c .before .size .ensures, c .before .before .before .pre .0)))
 
 lay-requires : tie.Need-lay-requires
 lay-requires c κs = search needs
@@ -22,17 +33,29 @@ enum-told c = search needs
 returns : tie.Need-returns
 returns c =
     let l = c .before .before .before in
-    let a = l .before .before .before .args in
-    let s = now (a .trace) in
+    let size = l .before .before .before in
+    let a = size .before .before .args in
+    let s = take (size .size .result) (now (a .buf)) in
     let before = now (a .text) in
-    lays-whole s before (omega arith) _ _ (sym (c .before .laid .given .1) ∙ l .lay .ensures .0)
-    (l .lay .ensures .1 ∙ laid-start (textOf s) before (text-fits s before (omega arith)))
+    subst (λ (n : ℕ). LaysWhole (take n (now (a .buf))) before (c .before .laid .given .0 .0) (l .lay .last .1 .0)) (size .size .ensures)
+    (lays-whole s before (omega arith) _ _ (sym (c .before .laid .given .1) ∙ l .lay .ensures .0)
+    (l .lay .ensures .1 ∙ laid-start (textOf s) before (text-fits s before (omega arith))))
 
 returns-2 : tie.Need-returns-2
 returns-2 c =
     let l = c .before .before in
-    let a = l .before .before .before .args in
-    absurd (never-short (now (a .trace)) (now (a .text)) (omega arith) (sym (c .enum-told .given .1) ∙ l .lay .ensures .0))
+    let size = l .before .before .before in
+    let a = size .before .before .args in
+    absurd (never-short (take (size .size .result) (now (a .buf))) (now (a .text)) (omega arith) (sym (c .enum-told .given .1) ∙ l .lay .ensures .0))
 
 pub lay-whole-spec : {M : Type 1} → statement M
-lay-whole-spec = tie.close (tie.spec lay-requires enum-known-laid enum-told returns returns-2)
+lay-whole-spec =
+    tie.close
+    (tie.spec
+    size-requires
+    slice-aggregate-lay
+    lay-requires
+    enum-known-laid
+    enum-told
+    returns
+    returns-2)

@@ -1,21 +1,21 @@
 use mathlib.Core.Path.{_≡_, refl, sym, _∙_}
 use mathlib.Core.Bool.{Bool, true, not, _&&_}
-use Prim.Native.Nat.{ℕ, _+_, _≤_, _<_, _-_}
-use native.Mathlib.Nat.{not-suc-le-zero, le-antisymm}
+use mathlib.Core.Logic.{⊎-elim}
+use Prim.Native.Nat.{ℕ, _+_, _*_, _%_, _^_, _≤_, _<_, _-_}
+use native.Mathlib.Nat.{le-antisymm}
 use native.Mathlib.Omega.{arith}
 use lib.Dec.{leb, ltb}
-use lib.ListN.{length, length-set, getD-replicate}
 use borrow.Author.Needs.{needs}
-use borrow.Author.Tests.{not-true, not-false, leb-true, le-ltb}
+use mir.Val.{boolByte}
+use borrow.Author.Tests.{not-true, not-false, leb-true, le-ltb, ltb-true}
 use Rattle.folds.specs.Folds.{all, every}
 use Rattle.folds.proofs.Folds.{and-right, all-none, all-more, all-fails, every-fails}
 use Rattle.sets.specs.Sets.{setOf}
 use Rattle.sets.proofs.Sets.{setOf-more, setOf-fits, setOf-far}
 use Rattle.block.specs.Tables.{warpAt, isExited, waitsPlaced, warpsCounted, liveOf, soundBlock}
 use Rattle.block.specs.declared.Block.{Block}
-use Rattle.soundness.specs.Places.{Listed}
-use Rattle.soundness.proofs.Places.{listed-more}
-use Rattle.soundness.proofs.Warps.{FreshTo, Unlisted, own-row, spare-row, all-warps, all-listed, unlisted-more, fresh-more}
+use Rattle.soundness.proofs.Warps.{FreshTo, own-row, spare-row, all-warps, fresh-more}
+use Rattle.soundness.proofs.Waiters.{Gathered, gathered-none, gathered-kept, waits-here, gathered-more, all-agreeing}
 use Rattle.soundness.proofs.sound.Statement.{statement}
 use Rattle.soundness.proofs.sound.Tie as tie
 
@@ -36,16 +36,14 @@ abbrev μ-loop : tie.MeasureT-loop
 μ-loop b n spare₀ spare = 32 - spare
 
 abbrev Inv-loop2 : tie.InvT-loop2
-Inv-loop2 b n spare alive₀ places₀ w₀ alive places w =
+Inv-loop2 b n spare alive₀ here₀ w₀ alive here w =
     (w ≤ n)
     × (all w (λ v. waitsPlaced (warpAt b v .status)) ≡ true)
-    × (length places ≡ 32)
-    × Listed w places b
-    × Unlisted w places
     × (alive ≡ setOf w (lives b))
+    × Gathered w here b
 
 abbrev μ-loop2 : tie.MeasureT-loop2
-μ-loop2 b n spare alive₀ places₀ w₀ alive places w = n - w
+μ-loop2 b n spare alive₀ here₀ w₀ alive here w = n - w
 
 returns : tie.Need-returns Inv-loop μ-loop Inv-loop2 μ-loop2
 unfolding soundBlock
@@ -97,7 +95,7 @@ loop-again c =
 
 loop2-holds : tie.Need-loop2-holds Inv-loop μ-loop Inv-loop2 μ-loop2
 unfolding setOf
-loop2-holds c = (omega arith, all-none _, refl, (λ w l. absurd (not-suc-le-zero l)), (λ v a l. getD-replicate 32 v _ 0 l), refl)
+loop2-holds c = let b = c .before .before .before .args .t1 in (omega arith, all-none _, refl, gathered-none b)
 
 cast-row-2 : tie.Need-cast-row-2 Inv-loop μ-loop Inv-loop2 μ-loop2
 cast-row-2 c = omega arith
@@ -105,8 +103,12 @@ cast-row-2 c = omega arith
 mul-row-2 : tie.Need-mul-row-2 Inv-loop μ-loop Inv-loop2 μ-loop2
 mul-row-2 c = omega arith
 
+-- the warp is one of 32
+below : (c : tie.In-loop2 Inv-loop μ-loop Inv-loop2 μ-loop2) → c .before .loop2 .w < 32
+below c = let h = c .before in omega (arith, few (h .before .before .before), h .loop2 .inv .0)
+
 element-copy-out-row-2 : tie.Need-element-copy-out-row-2 Inv-loop μ-loop Inv-loop2 μ-loop2
-element-copy-out-row-2 c = let h = c .before in omega (arith, few (h .before .before .before), h .loop2 .inv .0)
+element-copy-out-row-2 c = below c
 
 waits-placed-requires : tie.Need-waits-placed-requires Inv-loop μ-loop Inv-loop2 μ-loop2
 waits-placed-requires c κs = search needs
@@ -121,17 +123,6 @@ returns-3 c =
     let fails = sym (c .before .waits-placed .ensures) ∙ not-true _ (c .if3 .taken) in
     every-fails _ 1 (all-fails _ 32 w (omega (arith, l, few (h .before .before .before))) (sym (own-row (b .warps) w (warpAt b w) l) ∙ fails))
 
-place-of-requires : tie.Need-place-of-requires Inv-loop μ-loop Inv-loop2 μ-loop2
-place-of-requires c κs = search needs
-
-cast-places : tie.Need-cast-places Inv-loop μ-loop Inv-loop2 μ-loop2
-cast-places c = search needs
-
-array-write-places : tie.Need-array-write-places Inv-loop μ-loop Inv-loop2 μ-loop2
-array-write-places c =
-    let h = c .before .before .before .before .before in
-    omega (arith, few (h .before .before .before), h .loop2 .inv .0)
-
 is-live-requires : tie.Need-is-live-requires Inv-loop μ-loop Inv-loop2 μ-loop2
 is-live-requires c κs = search needs
 
@@ -142,9 +133,61 @@ cast-alive-2 : tie.Need-cast-alive-2 Inv-loop μ-loop Inv-loop2 μ-loop2
 cast-alive-2 c = search needs
 
 shl-alive : tie.Need-shl-alive Inv-loop μ-loop Inv-loop2 μ-loop2
-shl-alive c =
-    let h = c .before .before .before .before .before .before in
-    omega (arith, few (h .before .before .before), h .loop2 .inv .0)
+shl-alive c = below (c .before .before .before .before)
+
+-- the live ones with one warp more
+live-more : (c : tie.After-is-live Inv-loop μ-loop Inv-loop2 μ-loop2)
+    → let h = c .before .before .before .before .before in h .loop2 .alive + boolByte (c .is-live .result) * 2 ^ h .loop2 .w % 2 ^ 32 ≡ setOf (h .loop2 .w + 1) (lives (h .before .before .before .before .args .t1))
+live-more c =
+    let h = c .before .before .before .before .before in
+    rw (h .loop2 .inv .2) (setOf-more _ (h .loop2 .w) _ (below (c .before .before .before .before)) (c .is-live .ensures))
+
+add-alive : tie.Need-add-alive Inv-loop μ-loop Inv-loop2 μ-loop2
+add-alive c =
+    let l = below (c .before .before .before .before) in
+    record { fits = rw (live-more c) (setOf-fits _ _ (omega (arith, l))) }
+
+enum-told : tie.Need-enum-told Inv-loop μ-loop Inv-loop2 μ-loop2
+enum-told c = search needs
+
+enum-known-s : tie.Need-enum-known-s Inv-loop μ-loop Inv-loop2 μ-loop2
+enum-known-s c = search needs
+
+-- a warp that waits does so at a barrier that there is
+placed : (c : tie.After-s Inv-loop μ-loop Inv-loop2 μ-loop2) → c .s .given .0 .0 < 16
+placed c =
+    let p = c .before .before .before in
+    ltb-true (c .s .given .0 .0) 16 (rw (c .s .given .1) at (sym (p .before .waits-placed .ensures) ∙ not-false _ (p .if3 .left)))
+
+cast-here : tie.Need-cast-here Inv-loop μ-loop Inv-loop2 μ-loop2
+cast-here c = search needs
+
+shl-here : tie.Need-shl-here Inv-loop μ-loop Inv-loop2 μ-loop2
+shl-here c = below (c .before .before .before .before .before .before .before)
+
+cast-here-2 : tie.Need-cast-here-2 Inv-loop μ-loop Inv-loop2 μ-loop2
+cast-here-2 c = omega (arith, placed (c .before))
+
+mul-here : tie.Need-mul-here Inv-loop μ-loop Inv-loop2 μ-loop2
+mul-here c = omega (arith, placed (c .before))
+
+array-read-here : tie.Need-array-read-here Inv-loop μ-loop Inv-loop2 μ-loop2
+array-read-here c = omega (arith, placed (c .before))
+
+add-here : tie.Need-add-here Inv-loop μ-loop Inv-loop2 μ-loop2
+add-here c =
+    let p = c .before .before .before .before .before .before .before in
+    let h = p .before in
+    let b = h .before .before .before .before .args .t1 in
+    let l = below p in
+    let e = waits-here b (h .loop2 .w) (h .loop2 .here) (h .loop2 .inv .3) _ (c .before .s .given .1) l (placed (c .before)) in
+    record { fits = rw e (setOf-fits _ _ (omega (arith, l))) }
+
+array-write-here : tie.Need-array-write-here Inv-loop μ-loop Inv-loop2 μ-loop2
+array-write-here c = omega (arith, placed (c .before))
+
+enum-told-2 : tie.Need-enum-told-2 Inv-loop μ-loop Inv-loop2 μ-loop2
+enum-told-2 c = search needs
 
 add-w : tie.Need-add-w Inv-loop μ-loop Inv-loop2 μ-loop2
 add-w c = omega arith
@@ -152,26 +195,34 @@ add-w c = omega arith
 loop2-less : tie.Need-loop2-less Inv-loop μ-loop Inv-loop2 μ-loop2
 loop2-less c = omega arith
 
-loop2-again : tie.Need-loop2-again Inv-loop μ-loop Inv-loop2 μ-loop2
-loop2-again c =
-    let p = c .before in
-    let h = p .before .before .before .before .before in
+-- one warp more is gathered
+gathers : (c : tie.At-match-came Inv-loop μ-loop Inv-loop2 μ-loop2)
+    → let h = c .before .before .before .before .before .before in Gathered (h .loop2 .w + 1) (c .match .here) (h .before .before .before .before .args .t1)
+gathers c =
+    let p = c .before .before .before .before .before in
+    let h = p .before in
     let b = h .before .before .before .before .args .t1 in
     let w = h .loop2 .w in
-    let l = few (h .before .before .before) in
-    let placed = sym (p .before .before .waits-placed .ensures) ∙ not-false _ (p .before .if3 .left) in (
-      omega arith,
-      all-more _ w (h .loop2 .inv .1) placed,
-      length-set (h .loop2 .places) w (p .place-of .result) ∙ h .loop2 .inv .2,
-      listed-more (h .loop2 .places) b w (p .place-of .result) (omega (arith, l, h .loop2 .inv .2)) (h .loop2 .inv .3) (p .place-of .ensures),
-      unlisted-more (h .loop2 .places) w (p .place-of .result) (h .loop2 .inv .4),
-      rw (h .loop2 .inv .5) (setOf-more _ w _ (omega (arith, l)) (c .is-live .ensures)),
-    )
+    let here = h .loop2 .here in
+    let so = h .loop2 .inv .3 in
+    ⊎-elim
+    (λ a. rw (a .2) (gathered-kept b w here so (λ k. rw (a .1 .given .1))))
+    (⊎-elim
+    (λ a.
+    let l = placed (record { before = record { before = c .before; match = a .0 }; s = a .1 }) in
+    rw (a .3) (gathered-more b w here so _ (a .1 .given .1) (below p) l))
+    (λ a. rw (a .2) (gathered-kept b w here so (λ k. rw (a .1 .given .1)))))
+    (c .match .came)
 
-add-alive : tie.Need-add-alive Inv-loop μ-loop Inv-loop2 μ-loop2
-add-alive c =
-    let l = few (c .before .before .before .before .before .before .before .before .before) in
-    record { fits = rw (loop2-again c .5) (setOf-fits _ _ (omega (arith, l, loop2-again c .0))) }
+loop2-again : tie.Need-loop2-again Inv-loop μ-loop Inv-loop2 μ-loop2
+loop2-again c =
+    let p = c .before .before in
+    let h = p .before .before .before .before in (
+      omega arith,
+      all-more _ (h .loop2 .w) (h .loop2 .inv .1) (sym (p .before .waits-placed .ensures) ∙ not-false _ (p .if3 .left)),
+      live-more (c .before),
+      gathers c,
+    )
 
 -- all rows past the number of warps are fresh
 all-spare : (c : tie.After-loop Inv-loop μ-loop Inv-loop2 μ-loop2) → FreshTo (c .before .before .before .args .t1) 32
@@ -182,22 +233,21 @@ at-end : (c : tie.After-loop2 Inv-loop μ-loop Inv-loop2 μ-loop2) → c .before
 at-end c = le-antisymm (c .before .loop2 .inv .0) (c .loop2-test .left)
 
 rows-agree-requires : tie.Need-rows-agree-requires Inv-loop μ-loop Inv-loop2 μ-loop2
-rows-agree-requires c κs =
-    let h = c .before in
-    let b = h .before .before .before .before .args .t1 in
-    all-listed b (all-spare (h .before)) (h .loop2 .places) (rw (at-end c) at (h .loop2 .inv .3)) (rw (at-end c) at (h .loop2 .inv .4))
+rows-agree-requires c κs = search needs
 
 returns-4 : tie.Need-returns-4 Inv-loop μ-loop Inv-loop2 μ-loop2
 unfolding soundBlock every
 returns-4 c =
-    let h = c .before .before in
+    let p = c .before .before in
+    let h = p .before in
     let b = h .before .before .before .before .args .t1 in
-    let alive : h .loop2 .alive ≡ liveOf b = h .loop2 .inv .5 ∙ (rw (at-end (c .before)) (live-all b (few (h .before .before .before)))) in
-    c .rows-agree .ensures
-    ∙ rw (
+    let alive : h .loop2 .alive ≡ liveOf b = h .loop2 .inv .2 ∙ (rw (at-end p) (live-all b (few (h .before .before .before)))) in
+    rw (
+      c .rows-agree .ensures,
       alive,
+      all-agreeing b (h .loop2 .here) (all-spare (h .before)) (rw (at-end p) at (h .loop2 .inv .3)),
       not-false (warpsCounted b) (h .before .before .before .if1 .left),
-      all-warps b (all-spare (h .before)) (rw (at-end (c .before)) at (h .loop2 .inv .1)),
+      all-warps b (all-spare (h .before)) (rw (at-end p) at (h .loop2 .inv .1)),
     )
 
 pub sound-spec : {M : Type 1} → statement M
@@ -224,14 +274,21 @@ sound-spec =
     element-copy-out-row-2
     waits-placed-requires
     returns-3
-    place-of-requires
-    cast-places
-    array-write-places
     is-live-requires
     cast-alive
     cast-alive-2
     shl-alive
     add-alive
+    enum-told
+    enum-known-s
+    cast-here
+    shl-here
+    cast-here-2
+    mul-here
+    array-read-here
+    add-here
+    array-write-here
+    enum-told-2
     add-w
     loop2-less
     loop2-again

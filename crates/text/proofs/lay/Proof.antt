@@ -5,7 +5,7 @@ use borrow.Author.Needs.{needs}
 use borrow.Author.Tests.{not-true, not-false, leb-true}
 use denote.Ref.{now}
 use lib.ListN.{length}
-use Rattle.text.specs.Text.{textOf}
+use Rattle.printed.specs.Text.{textOf}
 use Rattle.text.proofs.Buffer.{answer-short, answer-fits}
 use Rattle.text.proofs.lay.Statement.{statement}
 use Rattle.text.proofs.lay.Tie as tie

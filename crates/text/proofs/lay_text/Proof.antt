@@ -9,10 +9,10 @@ use lib.ListN.{length, length-append}
 use Rattle.fields.specs.Num.{laid}
 use Rattle.block.specs.declared.Verdict.the-variants.{Refused}
 use Rattle.lines.specs.Lines.{lineOf, endOf}
-use Rattle.text.specs.Text.{textOfRefused, textOf}
+use Rattle.printed.specs.Text.{textOfRefused, textOf}
 use Rattle.text.specs.Buffer.{Lays}
-use Rattle.text.proofs.Text.{text-refused}
-use Rattle.text.proofs.Turns.{begins}
+use Rattle.printed.proofs.Text.{text-refused}
+use Rattle.printed.proofs.Turns.{begins}
 use Rattle.text.proofs.Buffer.{text-small, laid-two}
 use Rattle.text.proofs.lay_text.Statement.{statement}
 use Rattle.text.proofs.lay_text.Tie as tie

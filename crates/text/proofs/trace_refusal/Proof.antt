@@ -5,7 +5,7 @@ use borrow.Author.Tests.{lt-ltb, le-ltb, eq-eqb, ne-eqb}
 use denote.Ref.{now}
 use lib.ListN.{length}
 use Rattle.folds.specs.Folds.{lowest}
-use Rattle.text.specs.Text.{mostBytes, traceRefusal}
+use Rattle.printed.specs.Text.{mostBytes, traceRefusal}
 use Rattle.text.proofs.trace_refusal.Statement.{statement}
 use Rattle.text.proofs.trace_refusal.Tie as tie
 

@@ -2,7 +2,7 @@
 -- Assumes nothing.
 use Prim.Native.Nat.{_≤_, _-_}
 use borrow.Author.Needs.{needs}
-use mathlib.Core.Path.{_≡_, sym}
+use mathlib.Core.Path.{_≡_, refl, sym}
 use native.Mathlib.Omega.{arith}
 use lib.ListN.{length}
 use lib.Seq.{length-take-le}
@@ -11,10 +11,10 @@ use Rattle.glubotar.proofs.input.fill.Statement.{statement}
 use Rattle.glubotar.proofs.input.fill.Tie as tie
 
 abbrev Inv-loop : tie.InvT-loop
-Inv-loop fd room₀ at₀ room at = (at ≤ length room) × (length room ≡ length room₀)
+Inv-loop number path fd room₀ at₀ room at = (at ≤ length room) × (length room ≡ length room₀)
 
 abbrev μ-loop : tie.MeasureT-loop
-μ-loop fd room₀ at₀ room at = length room₀ - at
+μ-loop number path fd room₀ at₀ room at = length room₀ - at
 
 loop-holds : tie.Need-loop-holds Inv-loop μ-loop
 loop-holds c = search needs
@@ -32,7 +32,7 @@ read-requires : tie.Need-read-requires Inv-loop μ-loop
 read-requires c κs = search needs
 
 returns : tie.Need-returns Inv-loop μ-loop
-returns c = tt
+returns c = (refl, record { asked = refl; below = search needs })
 
 sub-count : tie.Need-sub-count Inv-loop μ-loop
 sub-count c = search needs
@@ -56,11 +56,24 @@ loop-again : tie.Need-loop-again Inv-loop μ-loop
 loop-again c = search needs
 
 returns-2 : tie.Need-returns-2 Inv-loop μ-loop
-returns-2 c =
-    ((search needs, sym (length-take-le _ _ (search needs))), λ full. long-settled _ (omega (arith, full, length-take-le (c .before .loop .at) (c .before .loop .room) (search needs))))
+returns-2 c = (
+  refl,
+  record {
+    asked = refl;
+    counts = (search needs, sym (length-take-le _ _ (search needs)));
+    full = λ full. long-settled _ (omega (arith, full, length-take-le (c .before .loop .at) (c .before .loop .room) (search needs)));
+  },
+)
 
 returns-3 : tie.Need-returns-3 Inv-loop μ-loop
-returns-3 c = ((search needs, sym (length-take-le _ _ (search needs))), λ full. absurd (omega (arith, full)))
+returns-3 c = (
+  refl,
+  record {
+    asked = refl;
+    counts = (search needs, sym (length-take-le _ _ (search needs)));
+    full = λ full. absurd (omega (arith, full));
+  },
+)
 
 pub fill-spec : {M : Type 1} → statement M
 fill-spec =

@@ -15,11 +15,11 @@ use Rattle.tables.specs.Refusals.{refusal}
 use Rattle.tables.specs.Effect.{taken}
 use Rattle.lines.specs.Lines.{decimal, lineOf, endOf}
 use Rattle.lines.proofs.Lines.{line-most, end-most}
-use Rattle.text.specs.Text.{answersFrom, answers, traceRefusal, linesOf, acceptedIn, refusedIn, textOf, roomFor}
+use Rattle.printed.specs.Text.{answersFrom, answers, traceRefusal, linesOf, acceptedIn, refusedIn, textOf, roomFor}
 use Rattle.runs.specs.Runs.{startOf}
-use Rattle.text.specs.Laws.{MoreChangesNothing, TurnByTurn, RoomIsEnough, WholeCase}
-use Rattle.text.proofs.Text.{text-answered, text-refused, enough, answers-most, lines-most}
-use Rattle.text.proofs.Turns.{begins, text-from, left-start}
+use Rattle.printed.specs.Laws.{MoreChangesNothing, TurnByTurn, RoomIsEnough, WholeCase}
+use Rattle.printed.proofs.Text.{text-answered, text-refused, enough, answers-most, lines-most}
+use Rattle.printed.proofs.Turns.{begins, text-from, left-start}
 
 pub whole-case : WholeCase
 unfolding all first every lowest firsts sizeBelow setOf readAt soundBlock refusal taken decimal lineOf endOf answersFrom traceRefusal textOf

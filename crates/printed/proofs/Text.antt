@@ -21,7 +21,7 @@ use Rattle.tables.specs.Tables.{Tables}
 use Rattle.tables.specs.Effect.{verdict, after}
 use Rattle.lines.specs.Lines.{mostLine, lineOf}
 use Rattle.lines.proofs.Lines.{line-most}
-use Rattle.text.specs.Text.{mostBytes, answersFrom, answers, traceRefusal, linesOf, textOfAnswers, textOfRefused, textOf}
+use Rattle.printed.specs.Text.{mostBytes, answersFrom, answers, traceRefusal, linesOf, textOfAnswers, textOfRefused, textOf}
 
 -- ---- a trace that is refused before its steps, and one that is not
 

@@ -5,9 +5,9 @@ use mathlib.Core.List.{List, [], _∷_}
 use Prim.Native.Nat.{ℕ, _≤_}
 use lib.ListN.{length, getD}
 use Rattle.tables.specs.Tables.{freshTables}
-use Rattle.text.specs.Text.{answersFrom, answers, traceRefusal, textOf, roomFor}
+use Rattle.printed.specs.Text.{answersFrom, answers, traceRefusal, textOf, roomFor}
 use Rattle.runs.specs.Runs.{startOf}
-use Rattle.text.specs.Turns.{textFrom}
+use Rattle.printed.specs.Turns.{textFrom}
 
 -- as many steps as there are bytes are enough: more that may be read change nothing
 abbrev pub MoreChangesNothing : Type 0

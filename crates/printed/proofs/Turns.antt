@@ -25,11 +25,11 @@ use Rattle.tables.specs.Effect.{verdict, after}
 use Rattle.lent.specs.Entries.{stateIn, freshRefusal}
 use Rattle.lines.specs.Lines.{lineOf, endOf}
 use Rattle.runs.specs.declared.Run.{Run}
-use Rattle.text.specs.Text.{mostBytes, answersFrom, answers, traceRefusal, linesOf, acceptedIn, refusedIn, textOf}
+use Rattle.printed.specs.Text.{mostBytes, answersFrom, answers, traceRefusal, linesOf, acceptedIn, refusedIn, textOf}
 use Rattle.runs.specs.Runs.{startOf, numberIn, stepped, stopped, turnOf}
-use Rattle.text.specs.Turns.{lineIn, goesOn, endIn, textFrom}
+use Rattle.printed.specs.Turns.{lineIn, goesOn, endIn, textFrom}
 use Rattle.runs.proofs.Runs.{turn-end, turn-stop, turn-step}
-use Rattle.text.proofs.Text.{text-answered, moves, at-place, answers-end, answers-stop, answers-step, enough, answers-most}
+use Rattle.printed.proofs.Text.{text-answered, moves, at-place, answers-end, answers-stop, answers-step, enough, answers-most}
 
 -- ---- the text that is left
 
@@ -50,7 +50,7 @@ abbrev pub leftTo : List ℕ → Bool → Run → List ℕ
 leftTo s going x = cond going (left s x) (endIn x)
 
 module _ (s : List ℕ) (x : Run) where
-  left-end : length s ≤ x .cursor .at → left s x ≡ endIn x
+  pub left-end : length s ≤ x .cursor .at → left s x ≡ endIn x
   unfolding left textOn
   left-end h = rw (answers-end s (tablesIn x) (x .cursor .at) (length s) h)
 
@@ -58,13 +58,13 @@ module _ (s : List ℕ) (x : Run) where
     one : length s ≡ suc (length s - 1)
     one = omega arith
 
-    left-stop : (n : ℕ) → readAt s (x .cursor .at) ≡ read.Refused n → left s x ≡ lineOf (numberIn (x .lines)) (Refused n) ++ endIn (stopped x n .run)
+    pub left-stop : (n : ℕ) → readAt s (x .cursor .at) ≡ read.Refused n → left s x ≡ lineOf (numberIn (x .lines)) (Refused n) ++ endIn (stopped x n .run)
     unfolding left textOn
     left-stop n e =
         ap (λ (k : ℕ). textOn (x .lines) (answersFrom k s (tablesIn x) (x .cursor .at))) one
         ∙ ap (textOn (x .lines)) (answers-stop s (tablesIn x) (x .cursor .at) (length s - 1) more n e)
 
-    left-step : (st : Step) (c : Cursor) → readAt s (x .cursor .at) ≡ read.Found st c
+    pub left-step : (st : Step) (c : Cursor) → readAt s (x .cursor .at) ≡ read.Found st c
         → left s x ≡ lineOf (numberIn (x .lines)) (verdict (tablesIn x) st) ++ left s (stepped x st c .run)
     unfolding left textOn
     left-step st c e =
