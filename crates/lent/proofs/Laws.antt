@@ -26,7 +26,7 @@ use Rattle.tables.proofs.Laws.{refused-exactly, refused-leaves-all, objects-lef
 use Rattle.tables.proofs.Kept as kept
 use Rattle.lent.specs.Entries.{tablesOf, freshLines, freshRefusal, freshTurn}
 use Rattle.lent.proofs.Entries.{some-warps}
-use Rattle.lent.specs.Laws.{RefusedExactly, RefusedLeaves, OthersLeft, KeepsSound, FreshExactly, FreshSound, NoneUnsound, OwnedSteps, OwnedFreshens}
+use Rattle.lent.specs.Laws.{RefusedExactly, RefusedLeaves, OthersLeft, KeepsSound, FreshExactly, FreshSound, NoneUnsound}
 
 -- ---- a step
 
@@ -118,15 +118,3 @@ pub none-unsound : NoneUnsound
 none-unsound l₀ y₀ w r l y e h l′ =
     let some = refused-some (freshRefusal (length l₀) w) w (ap (λ z. isAccepted (z .verdict)) (sym (e .answer)) ∙ h) in
     rw (e .answer, given-some (freshRefusal (length l₀) w) w some, none-sound)
-
--- ---- an owner
-
-pub owned-steps : OwnedSteps
-owned-steps o s = record { verdict = refl; block = refl; objects = refl; tally = refl }
-
-either : {A : Type 0} (b : Bool) (x : A) → x ≡ cond b x x
-either true x = refl
-either false x = refl
-
-pub owned-freshens : OwnedFreshens
-owned-freshens w = record { answer = refl; objects = either (eqb (freshRefusal slots w) 0) _; tally = either (eqb (freshRefusal slots w) 0) _ }

@@ -18,8 +18,6 @@ use Rattle.tables.specs.declared.Taken.{Taken}
 use Rattle.tables.specs.declared.Tally.{Tally}
 use Rattle.tables.specs.Tables.{Tables, freshTables, freshTally}
 use Rattle.tables.specs.Effect.{State, verdict, next}
-use Rattle.lent.specs.declared.Owned.{Owned}
-use Rattle.lent.specs.declared.OwnedTurn.{OwnedTurn}
 
 -- the tables of a block and a list of object rows
 abbrev pub tablesOf : Block → List Object → Tables
@@ -59,25 +57,3 @@ pub record Freshened (l₀ : List Object) (y₀ : Tally) (w : ℕ) (r : Turn) (l
   pub answer : r ≡ freshTurn (freshRefusal (length l₀) w) w
   pub objects : l ≡ cond (eqb (freshRefusal (length l₀) w) 0) (freshTables w .objects) l₀
   pub tally : y ≡ cond (eqb (freshRefusal (length l₀) w) 0) freshTally y₀
-
--- ---- an owner of block, list and tally
-
--- a verdict beside the owner of a block, a list and a tally
-abbrev pub bundled : Turn → List Object → Tally → OwnedTurn
-bundled t l y = record { verdict = t .verdict; state = record { block = t .block; objects = l; tally = y } }
-
--- what it has
-abbrev pub stateIn : Owned → State
-stateIn o = stateOf (o .block) (o .objects) (o .tally)
-
--- the owner that has these
-abbrev pub ownerOf : State → Owned
-ownerOf x = record { block = x .tables .block; objects = x .tables .objects; tally = x .tally }
-
--- one step on it
-abbrev pub ownedStep : Owned → Step → OwnedTurn
-ownedStep o s = record { verdict = verdict (stateIn o .tables) s; state = ownerOf (next (stateIn o) s) }
-
--- fresh tables: there are 64 records, so line 4 alone can apply; the records are dead and the numbers 0 all the same
-abbrev pub ownedFresh : ℕ → OwnedTurn
-ownedFresh w = bundled (freshTurn (freshRefusal slots w) w) (freshTables w .objects) freshTally

@@ -14,12 +14,10 @@ use Rattle.block.specs.declared.Verdict.the-variants.{Refused}
 use Rattle.block.specs.declared.Turn.{Turn}
 use Rattle.block_laws.specs.Sound.{Shaped}
 use Rattle.tables.specs.declared.Tally.{Tally}
-use Rattle.tables.specs.Tables.{soundTables, viewOf, slotOf, isAccepted, counted, freshTables, freshTally}
+use Rattle.tables.specs.Tables.{soundTables, viewOf, slotOf, isAccepted, counted}
 use Rattle.tables.specs.Refusals.{lines}
 use Rattle.tables.specs.Effect.{State}
-use Rattle.lent.specs.declared.Owned.{Owned}
-use Rattle.lent.specs.declared.OwnedTurn.{OwnedTurn}
-use Rattle.lent.specs.Entries.{tablesOf, Stepped, freshLines, Freshened, stateIn, ownedStep, ownedFresh}
+use Rattle.lent.specs.Entries.{tablesOf, Stepped, freshLines, Freshened}
 
 -- ---- a step
 
@@ -69,18 +67,3 @@ abbrev pub NoneUnsound : Type 0
 NoneUnsound =
     (l₀ : List Object) (y₀ : Tally) (w : ℕ) (r : Turn) (l : List Object) (y : Tally) → Freshened l₀ y₀ w r l y
     → isAccepted (r .verdict) ≡ false → (l′ : List Object) → soundTables (tablesOf (r .block) l′) ≡ false
-
--- ---- an owner
-
--- the answer beside what is owned
-abbrev pub turnIn : OwnedTurn → Turn
-turnIn t = record { verdict = t .verdict; block = t .state .block }
-
--- an owner's step is such a step
-abbrev pub OwnedSteps : Type 0
-OwnedSteps = (o : Owned) (s : Step) → Stepped (stateIn o) s (turnIn (ownedStep o s)) (ownedStep o s .state .objects) (ownedStep o s .state .tally)
-
--- and its fresh tables are such tables, over 64 dead rows and a tally of zeros
-abbrev pub OwnedFreshens : Type 0
-OwnedFreshens =
-    (w : ℕ) → Freshened (freshTables w .objects) freshTally w (turnIn (ownedFresh w)) (ownedFresh w .state .objects) (ownedFresh w .state .tally)

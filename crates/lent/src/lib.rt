@@ -9,23 +9,10 @@ use tables::Taken;
 use tables::Tally;
 ghost use mathlib.Core.Path.{_≡_};
 ghost use Rattle.tables.specs.Tables.{soundTables, slotOf, freshTally};
-ghost use Rattle.lent.specs.Entries.{tablesOf, stateOf, turnOf, Stepped, freshRefusal, freshTurn, Freshened, bundled, ownedStep, ownedFresh};
+ghost use Rattle.lent.specs.Entries.{tablesOf, stateOf, turnOf, Stepped, freshRefusal, freshTurn, Freshened};
 
 // A block has at most 32 warps.
 const MOST_WARPS: u8 = 32;
-
-// Block, list and tally by value, for whoever owns them.
-pub struct Owned {
-    pub block: Block,
-    pub objects: [Object; SLOTS],
-    pub tally: Tally,
-}
-
-// A verdict, and what is owned after the step.
-pub struct OwnedTurn {
-    pub verdict: Verdict,
-    pub state: Owned,
-}
 
 // Whether the tables of this block and this list are sound.
 pub fn sound(b: Block, objects: &[Object]) -> bool
@@ -58,14 +45,14 @@ pub fn step(b: Block, objects: &mut [Object], tally: &mut Tally, s: Step) -> Tur
     let fine = rows::rows_sound(objects);
     let at = slot(s);
     let row = rows::row_at(objects, at);
-    let out = tables::take(b, fine, row, s);
+    let out = whole_step::take(b, fine, row, s);
     rows::put_row(objects, at, out.object);
     rows::count(tally, out.verdict);
     turn_of(out)
 }
 
 // The lowest line that refuses fresh tables over so many records, and 0 if none does.
-fn fresh_refusal(rows: usize, warps: u8) -> u8
+pub fn fresh_refusal(rows: usize, warps: u8) -> u8
     ensures { λ r. ⌜ r ≡ freshRefusal rows warps ⌝ }
 {
     if rows != SLOTS {
@@ -78,7 +65,7 @@ fn fresh_refusal(rows: usize, warps: u8) -> u8
 }
 
 // The answer to whoever asks for fresh tables, where the refusal number is n.
-fn fresh_turn(n: u8, warps: u8) -> Turn
+pub fn fresh_turn(n: u8, warps: u8) -> Turn
     ensures { λ r. ⌜ r ≡ freshTurn n warps ⌝ }
 {
     if n != 0 {
@@ -100,7 +87,7 @@ fn fresh_turn(n: u8, warps: u8) -> Turn
 }
 
 // A tally of zeros.
-fn fresh_tally() -> Tally
+pub fn fresh_tally() -> Tally
     ensures { λ r. ⌜ r ≡ freshTally ⌝ }
 {
     Tally {
@@ -120,49 +107,4 @@ pub fn fresh(objects: &mut [Object], tally: &mut Tally, warps: u8) -> Turn
     rows::fresh_rows(objects);
     *tally = fresh_tally();
     fresh_turn(n, warps)
-}
-
-// The owner of what a step left.
-fn bundle(t: Turn, objects: [Object; SLOTS], tally: Tally) -> OwnedTurn
-    ensures { λ r. ⌜ r ≡ bundled t objects tally ⌝ }
-{
-    let verdict = t.verdict;
-    let block = t.block;
-    OwnedTurn {
-        verdict,
-        state: Owned {
-            block,
-            objects,
-            tally,
-        },
-    }
-}
-
-// One step on block, list and tally by value: list and tally are lent to `step` where they lie.
-fn step_parts(b: Block, mut objects: [Object; SLOTS], mut tally: Tally, s: Step) -> OwnedTurn
-    ensures { λ r. ⌜ r ≡ ownedStep (record { block = b; objects = objects; tally = tally }) s ⌝ }
-{
-    let t = step(b, &mut objects, &mut tally, s);
-    bundle(t, objects, tally)
-}
-
-// One step on what is owned.
-pub fn step_owned(o: Owned, s: Step) -> OwnedTurn
-    ensures { λ r. ⌜ r ≡ ownedStep o s ⌝ }
-{
-    let block = o.block;
-    let objects = o.objects;
-    let tally = o.tally;
-    step_parts(block, objects, tally, s)
-}
-
-// Fresh tables for a number of warps, owned.
-pub fn fresh_owned(warps: u8) -> OwnedTurn
-    ensures { λ r. ⌜ r ≡ ownedFresh warps ⌝ }
-{
-    let n = fresh_refusal(SLOTS, warps);
-    let row = object::dead();
-    let objects = [row; SLOTS];
-    let tally = fresh_tally();
-    bundle(fresh_turn(n, warps), objects, tally)
 }

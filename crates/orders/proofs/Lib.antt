@@ -6,5 +6,3 @@ pub mod Step
 pub mod Finishes
 pub mod Due
 pub mod Orders
-pub mod Example
-pub mod Tight

@@ -22,7 +22,8 @@ use Rattle.block.specs.Rows.{largest}
 use Rattle.tables.specs.declared.Tally.{Tally}
 use Rattle.tables.specs.Tables.{Tables, freshTables, tallied, counted}
 use Rattle.tables.specs.Effect.{verdict, after}
-use Rattle.lent.specs.Entries.{stateIn, freshRefusal}
+use Rattle.lent.specs.Entries.{freshRefusal}
+use Rattle.owned.specs.Owner.{stateIn}
 use Rattle.lines.specs.Lines.{lineOf, endOf}
 use Rattle.runs.specs.declared.Run.{Run}
 use Rattle.printed.specs.Text.{mostBytes, answersFrom, answers, traceRefusal, linesOf, acceptedIn, refusedIn, textOf}

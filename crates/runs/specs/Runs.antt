@@ -13,7 +13,7 @@ use Rattle.steps.specs.Step.{readAt}
 use Rattle.block.specs.declared.Verdict.the-variants.{Refused}
 use Rattle.tables.specs.declared.Tally.{Tally}
 use Rattle.tables.specs.Tables.{tallied, freshTally}
-use Rattle.lent.specs.Entries.{ownedStep, ownedFresh}
+use Rattle.owned.specs.Owner.{ownedStep, ownedFresh}
 use Rattle.runs.specs.declared.Run.{Run}
 use Rattle.runs.specs.declared.Next.the-variants.{Goes, Stops, Finished}
 use Rattle.runs.specs.declared.Turned.{Turned}

@@ -1,6 +1,6 @@
 // A run over a trace as a state by value, and its turn: one step read and taken.
 use block::Verdict;
-use lent::Owned;
+use owned::Owned;
 use steps::Cursor;
 use steps::Read;
 use steps::Step;
@@ -32,7 +32,7 @@ pub struct Turned {
 pub fn start(warps: u8) -> Run
     ensures { λ r. ⌜ r ≡ startOf warps ⌝ }
 {
-    let t = lent::fresh_owned(warps);
+    let t = owned::fresh_owned(warps);
     let state = t.state;
     Run {
         state,
@@ -55,7 +55,7 @@ pub fn number_in(lines: Tally) -> u64
 fn go_on(run: Run, step: Step, next: Cursor) -> Turned
     ensures { λ r. ⌜ r ≡ stepped run step next ⌝ }
 {
-    let t = lent::step_owned(run.state, step);
+    let t = owned::step_owned(run.state, step);
     let verdict = t.verdict;
     let state = t.state;
     Turned {

@@ -1,5 +1,4 @@
 pub mod LengthTable
-pub mod WidthTable
 pub mod Each
 pub mod Reading
 pub mod Writing

@@ -96,7 +96,7 @@ fn show_bytes(s: &[u8]) {
 
 // The bytes of a step, written into a row and shown.
 fn rewrite_in(step: Step, row: &mut [u8]) {
-    let wrote = steps::write(step, &mut *row, 0);
+    let wrote = steps_writer::write(step, &mut *row, 0);
     let Wrote::Next(end) = wrote else {
         say(b"; no room\n");
         return;

@@ -1,202 +1,19 @@
 // The text of a whole trace, laid into a buffer that the caller lends.
-use block::Block;
-use block::Verdict;
 use lines::MOST_LINE;
-use object::Object;
-use rows::SLOTS;
-use steps::Cursor;
-use steps::Op;
-use steps::Read;
-use steps::Step;
-use tables::Tally;
 ghost use mathlib.Core.Path.{_≡_};
-ghost use Prim.Native.Nat.{_+_, _<_};
 ghost use lib.Dec.{leb};
-ghost use lib.ListN.{length, getD};
+ghost use lib.ListN.{length};
 ghost use Rattle.fields.specs.Num.{laid};
-ghost use Rattle.lines.specs.Lines.{mostLine, lineOf};
-ghost use Rattle.printed.specs.Text.{traceRefusal, textOf, roomFor};
-ghost use Rattle.runs.specs.Runs.{numberIn};
-ghost use Rattle.text.specs.Buffer.{firstPlace, looked, lineLaid, Begun, TurnsLaid, LastLaid, Lays, answerOf};
+ghost use Rattle.printed.specs.Text.{textOf, roomFor};
+ghost use Rattle.text.specs.Buffer.{answerOf};
 
 // A trace has at most 65,536 bytes.
 const MOST_BYTES: usize = 65536;
-
-// A block has at most 32 warps.
-const MOST_WARPS: u8 = 32;
-
-// A text that is being laid: whether a step was found at the run's place, and which; the 1 or 2 that was found instead, else 0; the place after what is laid; the place of the next step; the lines so far.
-struct Laying {
-    going: bool,
-    refusal: u8,
-    at: usize,
-    cursor: Cursor,
-    lines: Tally,
-    step: Step,
-}
 
 // The length of the text that was laid; or that the buffer is too short.
 pub enum Laid {
     Length(usize),
     Short,
-}
-
-// Reads what stands at the run's place: a step, a 1 or 2, or nothing more.
-fn look(trace: &[u8], l: Laying) -> Laying
-    ensures { λ r. ⌜ r ≡ looked (now (trace .entry)) l ⌝ }
-{
-    let at = l.at;
-    let cursor = l.cursor;
-    let lines = l.lines;
-    let step = l.step;
-    if trace.len() <= cursor.at {
-        return Laying {
-            going: false,
-            refusal: 0,
-            at,
-            cursor,
-            lines,
-            step,
-        };
-    }
-    match cursor.read(trace) {
-        Read::Found(found, next) => Laying {
-            going: true,
-            refusal: 0,
-            at,
-            cursor: next,
-            lines,
-            step: found,
-        },
-        Read::Refused(n) => Laying {
-            going: false,
-            refusal: n,
-            at,
-            cursor,
-            lines,
-            step,
-        },
-    }
-}
-
-// The line of a verdict, laid where it fits.
-fn lay_line(out: &mut [u8], l: Laying, v: Verdict) -> Laying
-    requires { ⌜ l .at + mostLine < 18446744073709551616 ⌝ }
-    ensures { λ r. ⌜ (r ≡ lineLaid l v) × (now (out .exit) ≡ laid (now (out .entry)) (l .at) (lineOf (numberIn (l .lines)) v)) ⌝ }
-{
-    let at = l.at;
-    let lines = l.lines;
-    let cursor = l.cursor;
-    let step = l.step;
-    Laying {
-        going: l.going,
-        refusal: l.refusal,
-        at: at + lines::put_line(&mut *out, at, runs::number_in(lines), v),
-        cursor,
-        lines: tables::add(lines, v),
-        step,
-    }
-}
-
-// Lays the lines of the steps, turn by turn; list and tally are lent to each step where they lie.
-fn lay_turns(
-    trace: &[u8],
-    out: &mut [u8],
-    mut block: Block,
-    mut objects: [Object; SLOTS],
-    mut tally: Tally,
-    mut l: Laying,
-) -> Laying
-    requires { ⌜ Begun (now trace) block objects tally l ⌝ }
-    ensures { λ r. ⌜ TurnsLaid (now (trace .entry)) (now (out .entry)) r (now (out .exit)) ⌝ }
-{
-    loop {
-        l = look(trace, l);
-        if !l.going {
-            break;
-        }
-        let t = lent::step(block, &mut objects, &mut tally, l.step);
-        l = lay_line(&mut *out, l, t.verdict);
-        block = t.block;
-    }
-    l
-}
-
-// A text of which nothing is laid, at the first step.
-fn first_place() -> Laying
-    ensures { λ r. ⌜ r ≡ firstPlace ⌝ }
-{
-    Laying {
-        going: true,
-        refusal: 0,
-        at: 0,
-        cursor: Cursor { at: 1 },
-        lines: Tally {
-            accepted: 0,
-            refused: 0,
-        },
-        step: Step {
-            warp: 0,
-            op: Op::Exit,
-        },
-    }
-}
-
-// Lays what follows the last step: the line of a 1 or 2, if one was found, and the end line; answers the length of all.
-fn lay_last(out: &mut [u8], l: Laying) -> usize
-    requires { ⌜ l .at + (mostLine + mostLine) < 18446744073709551616 ⌝ }
-    ensures { λ r. ⌜ LastLaid (now (out .entry)) l r (now (out .exit)) ⌝ }
-{
-    if l.refusal != 0 {
-        let stopped = lay_line(&mut *out, l, Verdict::Refused(l.refusal));
-        let lines = stopped.lines;
-        return stopped.at + lines::put_end(&mut *out, stopped.at, lines.accepted, lines.refused);
-    }
-    let lines = l.lines;
-    l.at + lines::put_end(&mut *out, l.at, lines.accepted, lines.refused)
-}
-
-// Lays the lines of the steps and the end line; answers the length, and where that is more than the buffer has, some lines are left out.
-fn lay_steps(trace: &[u8], out: &mut [u8], warps: u8) -> usize
-    requires { ⌜ (traceRefusal (now trace) ≡ 0) × (warps ≡ getD (now trace) 0 0) ⌝ }
-    ensures { λ r. ⌜ Lays (now (trace .entry)) (now (out .entry)) r (now (out .exit)) ⌝ }
-{
-    let t = lent::fresh_owned(warps);
-    let state = t.state;
-    let block = state.block;
-    let objects = state.objects;
-    let tally = state.tally;
-    let l = lay_turns(trace, &mut *out, block, objects, tally, first_place());
-    lay_last(&mut *out, l)
-}
-
-// Why a trace is refused before its steps; 0 where it is not.
-fn trace_refusal(trace: &[u8]) -> u8
-    ensures { λ r. ⌜ r ≡ traceRefusal (now (trace .entry)) ⌝ }
-{
-    if MOST_BYTES < trace.len() {
-        return 21;
-    }
-    if trace.len() == 0 {
-        return 2;
-    }
-    let warps = trace[0];
-    if (warps == 0) | (MOST_WARPS < warps) {
-        return 4;
-    }
-    0
-}
-
-// Lays the text of a trace; answers its length, and where that is more than the buffer has, some lines are left out.
-fn lay_text(trace: &[u8], out: &mut [u8]) -> usize
-    ensures { λ r. ⌜ Lays (now (trace .entry)) (now (out .entry)) r (now (out .exit)) ⌝ }
-{
-    let n = trace_refusal(trace);
-    if n != 0 {
-        let at = lines::put_line(&mut *out, 0, 0, Verdict::Refused(n));
-        return at + lines::put_end(&mut *out, at, 0, 1);
-    }
-    lay_steps(trace, &mut *out, trace[0])
 }
 
 // As many bytes as are always enough for the text of a trace of so many bytes.
@@ -214,7 +31,7 @@ pub fn needed(trace: &[u8]) -> usize
     ensures { λ r. ⌜ r ≡ length (textOf (now (trace .entry))) ⌝ }
 {
     let mut none = [0u8; 0];
-    lay_text(trace, &mut none)
+    laying::lay_text(trace, &mut none)
 }
 
 // Whether the text of a trace has at most so many bytes; it is counted only where the room for any such trace is more.
@@ -234,5 +51,5 @@ pub fn lay(trace: &[u8], out: &mut [u8]) -> Laid
     if !fits(trace, out.len()) {
         return Laid::Short;
     }
-    Laid::Length(lay_text(trace, &mut *out))
+    Laid::Length(laying::lay_text(trace, &mut *out))
 }

@@ -67,10 +67,10 @@ use Rattle.tables.specs.Effect.{taken}
 use Rattle.tables.proofs.Tally as T
 use Rattle.tables.proofs.Taken as U
 use Rattle.tables.proofs.Taken.Laws as U′
-use Rattle.tables.proofs.take as take
-use Rattle.tables.proofs.take.Symbol as take-def
-use Rattle.tables.proofs.take.Symbol.{name as #tables·take}
-use Rattle.tables.proofs.take.Met as take-thm
+use Rattle.whole_step.proofs.take as take
+use Rattle.whole_step.proofs.take.Symbol as take-def
+use Rattle.whole_step.proofs.take.Symbol.{name as #whole-step·take}
+use Rattle.whole_step.proofs.take.Met as take-thm
 use Rattle.rows.proofs.Walk.{says-too, calls-exact, gone1, concluded, over}
 use Rattle.rows.proofs.rows_sound as rows-sound
 use Rattle.rows.proofs.rows_sound.Symbol as rows-sound-def
@@ -133,7 +133,7 @@ module _ {M : Type 1} (𝓤 : URA M) (H : Heap 𝓤) (A : Atoms 𝓤) (at-mem : 
     pub rows-sound : Triple 𝓤 (C #rows·rows-sound) RowsSound
     pub slot : Triple 𝓤 (C #lent·slot) Slot
     pub row-at : Triple 𝓤 (C #rows·row-at) RowAt
-    pub take : Triple 𝓤 (C #tables·take) Take
+    pub take : Triple 𝓤 (C #whole-step·take) Take
     pub put-row : Triple 𝓤 (C #rows·put-row) PutRow
     pub count : Triple 𝓤 (C #rows·count) Count
     pub turn-of : Triple 𝓤 (C #lent·turn-of) TurnOf
@@ -281,7 +281,7 @@ step-spec 𝓤 H 𝓜 𝓖 𝓡 =
       rows-sound = cited 𝓤 H (RowsSound 𝓤 H (𝓖 .A) (𝓜 .mem) (𝓡 .run)) 𝓜 𝓡 code.env #rows·rows-sound rows-sound-def.routine code.calls-rows·rows-sound (rows-sound-thm.met 𝓤 H 𝓜 𝓖 𝓡);
       slot = cited 𝓤 H (Slot 𝓤 H (𝓖 .A) (𝓜 .mem) (𝓡 .run)) 𝓜 𝓡 code.env #lent·slot slot-def.routine code.calls-lent·slot (slot-thm.met 𝓤 H 𝓜 𝓖 𝓡);
       row-at = cited 𝓤 H (RowAt 𝓤 H (𝓖 .A) (𝓜 .mem) (𝓡 .run)) 𝓜 𝓡 code.env #rows·row-at row-at-def.routine code.calls-rows·row-at (row-at-thm.met 𝓤 H 𝓜 𝓖 𝓡);
-      take = cited 𝓤 H (Take 𝓤 H (𝓖 .A) (𝓜 .mem) (𝓡 .run)) 𝓜 𝓡 code.env #tables·take take-def.routine code.calls-tables·take (take-thm.met 𝓤 H 𝓜 𝓖 𝓡);
+      take = cited 𝓤 H (Take 𝓤 H (𝓖 .A) (𝓜 .mem) (𝓡 .run)) 𝓜 𝓡 code.env #whole-step·take take-def.routine code.calls-whole-step·take (take-thm.met 𝓤 H 𝓜 𝓖 𝓡);
       put-row = cited 𝓤 H (PutRow 𝓤 H (𝓖 .A) (𝓜 .mem) (𝓡 .run)) 𝓜 𝓡 code.env #rows·put-row put-row-def.routine code.calls-rows·put-row (put-row-thm.met 𝓤 H 𝓜 𝓖 𝓡);
       count = cited 𝓤 H (Count 𝓤 H (𝓖 .A) (𝓜 .mem) (𝓡 .run)) 𝓜 𝓡 code.env #rows·count count-def.routine code.calls-rows·count (count-thm.met 𝓤 H 𝓜 𝓖 𝓡);
       turn-of = cited 𝓤 H (TurnOf 𝓤 H (𝓖 .A) (𝓜 .mem) (𝓡 .run)) 𝓜 𝓡 code.env #lent·turn-of turn-of-def.routine code.calls-lent·turn-of (turn-of-thm.met 𝓤 H 𝓜 𝓖 𝓡);

@@ -3,7 +3,7 @@
 use mathlib.Core.Path.{ap, _∙_}
 use borrow.Author.Needs.{needs}
 use Rattle.tables.specs.Tables.{tallied}
-use Rattle.lent.specs.declared.OwnedTurn.{OwnedTurn}
+use Rattle.owned.specs.declared.OwnedTurn.{OwnedTurn}
 use Rattle.runs.specs.declared.Next.the-variants.{Goes}
 use Rattle.runs.proofs.go_on.Statement.{statement}
 use Rattle.runs.proofs.go_on.Tie as tie

@@ -1,0 +1,100 @@
+// A trace as it is gone through: why it is refused before its steps, and what stands at a place in it.
+use steps::Cursor;
+use steps::Op;
+use steps::Read;
+use steps::Step;
+use tables::Tally;
+ghost use mathlib.Core.Path.{_≡_};
+ghost use Rattle.printed.specs.Text.{traceRefusal};
+ghost use Rattle.looking.specs.Places.{firstPlace, looked};
+
+// A trace has at most 65,536 bytes.
+const MOST_BYTES: usize = 65536;
+
+// A block has at most 32 warps.
+const MOST_WARPS: u8 = 32;
+
+// A text that is being laid: whether a step was found at the run's place, and which; the 1 or 2 that was found instead, else 0; the place after what is laid; the place of the next step; the lines so far.
+pub struct Laying {
+    pub going: bool,
+    pub refusal: u8,
+    pub at: usize,
+    pub cursor: Cursor,
+    pub lines: Tally,
+    pub step: Step,
+}
+
+// Why a trace is refused before its steps; 0 where it is not.
+pub fn trace_refusal(trace: &[u8]) -> u8
+    ensures { λ r. ⌜ r ≡ traceRefusal (now (trace .entry)) ⌝ }
+{
+    if MOST_BYTES < trace.len() {
+        return 21;
+    }
+    if trace.len() == 0 {
+        return 2;
+    }
+    let warps = trace[0];
+    if (warps == 0) | (MOST_WARPS < warps) {
+        return 4;
+    }
+    0
+}
+
+// A text of which nothing is laid, at the first step.
+pub fn first_place() -> Laying
+    ensures { λ r. ⌜ r ≡ firstPlace ⌝ }
+{
+    Laying {
+        going: true,
+        refusal: 0,
+        at: 0,
+        cursor: Cursor { at: 1 },
+        lines: Tally {
+            accepted: 0,
+            refused: 0,
+        },
+        step: Step {
+            warp: 0,
+            op: Op::Exit,
+        },
+    }
+}
+
+// Reads what stands at the run's place: a step, a 1 or 2, or nothing more.
+pub fn look(trace: &[u8], l: Laying) -> Laying
+    ensures { λ r. ⌜ r ≡ looked (now (trace .entry)) l ⌝ }
+{
+    let at = l.at;
+    let cursor = l.cursor;
+    let lines = l.lines;
+    let step = l.step;
+    if trace.len() <= cursor.at {
+        return Laying {
+            going: false,
+            refusal: 0,
+            at,
+            cursor,
+            lines,
+            step,
+        };
+    }
+    match cursor.read(trace) {
+        Read::Found(found, next) => Laying {
+            going: true,
+            refusal: 0,
+            at,
+            cursor: next,
+            lines,
+            step: found,
+        },
+        Read::Refused(n) => Laying {
+            going: false,
+            refusal: n,
+            at,
+            cursor,
+            lines,
+            step,
+        },
+    }
+}

@@ -1,0 +1,68 @@
+// Block, list and tally by value: the entries of `lent` for whoever owns what they are lent.
+use block::Block;
+use block::Turn;
+use block::Verdict;
+use object::Object;
+use rows::SLOTS;
+use steps::Step;
+use tables::Tally;
+ghost use mathlib.Core.Path.{_≡_};
+ghost use Rattle.owned.specs.Owner.{bundled, ownedStep, ownedFresh};
+
+// Block, list and tally by value, for whoever owns them.
+pub struct Owned {
+    pub block: Block,
+    pub objects: [Object; SLOTS],
+    pub tally: Tally,
+}
+
+// A verdict, and what is owned after the step.
+pub struct OwnedTurn {
+    pub verdict: Verdict,
+    pub state: Owned,
+}
+
+// The owner of what a step left.
+fn bundle(t: Turn, objects: [Object; SLOTS], tally: Tally) -> OwnedTurn
+    ensures { λ r. ⌜ r ≡ bundled t objects tally ⌝ }
+{
+    let verdict = t.verdict;
+    let block = t.block;
+    OwnedTurn {
+        verdict,
+        state: Owned {
+            block,
+            objects,
+            tally,
+        },
+    }
+}
+
+// One step on block, list and tally by value: list and tally are lent to `lent::step` where they lie.
+fn step_parts(b: Block, mut objects: [Object; SLOTS], mut tally: Tally, s: Step) -> OwnedTurn
+    ensures { λ r. ⌜ r ≡ ownedStep (record { block = b; objects = objects; tally = tally }) s ⌝ }
+{
+    let t = lent::step(b, &mut objects, &mut tally, s);
+    bundle(t, objects, tally)
+}
+
+// One step on what is owned.
+pub fn step_owned(o: Owned, s: Step) -> OwnedTurn
+    ensures { λ r. ⌜ r ≡ ownedStep o s ⌝ }
+{
+    let block = o.block;
+    let objects = o.objects;
+    let tally = o.tally;
+    step_parts(block, objects, tally, s)
+}
+
+// Fresh tables for a number of warps, owned.
+pub fn fresh_owned(warps: u8) -> OwnedTurn
+    ensures { λ r. ⌜ r ≡ ownedFresh warps ⌝ }
+{
+    let n = lent::fresh_refusal(SLOTS, warps);
+    let row = object::dead();
+    let objects = [row; SLOTS];
+    let tally = lent::fresh_tally();
+    bundle(lent::fresh_turn(n, warps), objects, tally)
+}

@@ -1,0 +1,24 @@
+-- `whole_step::answer` meets its contract, case by case.
+-- Assumes nothing.
+use mathlib.Core.Path.{refl}
+use borrow.Author.Needs.{needs}
+use Rattle.whole_step.proofs.answer.Statement.{statement}
+use Rattle.whole_step.proofs.answer.Tie as tie
+
+enum-known-a : tie.Need-enum-known-a
+enum-known-a c = search needs
+
+refuse-requires : tie.Need-refuse-requires
+refuse-requires c κs = search needs
+
+enum-known-a-2 : tie.Need-enum-known-a-2
+enum-known-a-2 c = search needs
+
+returns : tie.Need-returns
+returns c = rw (c .before .before .a .given .1) (c .refuse .ensures)
+
+returns-2 : tie.Need-returns-2
+returns-2 c = rw (c .before .a2 .given .1) refl
+
+pub answer-spec : {M : Type 1} → statement M
+answer-spec = tie.close (tie.spec enum-known-a refuse-requires enum-known-a-2 returns returns-2)
