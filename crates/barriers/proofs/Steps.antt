@@ -9,9 +9,11 @@ use lib.Seq.{set-out}
 use borrow.Author.Tests.{ne-eqb, lt-ltb, le-ltb, ltb-false, le-leb, lt-leb}
 use Rattle.folds.specs.Folds.{lowest}
 use Rattle.sets.specs.Sets.{has}
-use Rattle.block.specs.Tables.{barrierCount, isIdle, barrierAt, liveOf}
+use Rattle.block.specs.Tables.{barrierCount, freshWarp, isIdle, warpAt, barrierAt, liveOf}
 use Rattle.block.specs.Rows.{badCount, differs, arrivedRow, completes}
 use Rattle.barriers.specs.Steps.{noSuchWarp, notReady, noSuchBarrier, warpRefusal, arrivalRefusal, callRefusal, completed, goesOn, refused, arrival, without, opened, exit}
+use Rattle.block.proofs.Tables.{past}
+use Rattle.block.specs.declared.Status.the-variants.{Waiting}
 use Rattle.block.specs.declared.Verdict.the-variants.{Accepted}
 use Rattle.block.specs.declared.Barrier.{Barrier}
 use Rattle.block.specs.declared.Block.{Block}
@@ -43,6 +45,26 @@ module _ (n : ℕ) (r : Barrier) (w : ℕ) (c : Call) where
         unfolding callRefusal lowest
         no-line e = rw (no-7, no-8, no-9, e)
 
+-- ---- which line refuses a step of a warp
+
+module _ (b : Block) (w : ℕ) where
+  pub warp-4 : b .warps ≤ w → 4 ≡ warpRefusal b w
+  unfolding warpRefusal lowest
+  warp-4 h = rw (le-leb (b .warps) w h)
+
+  module _ (there : w < b .warps) where
+    pub warp-5 : notReady b w ≡ true → 5 ≡ warpRefusal b w
+    unfolding warpRefusal lowest
+    warp-5 e = rw (lt-leb (b .warps) w there, e)
+
+    pub warp-free : notReady b w ≡ false → 0 ≡ warpRefusal b w
+    unfolding warpRefusal lowest
+    warp-free e = rw (lt-leb (b .warps) w there, e)
+
+-- past the last warp row every warp is ready
+pub past-ready : (b : Block) (w : ℕ) → length (b .rows) ≡ 32 → 32 ≤ w → notReady b w ≡ false
+past-ready b w l h = rw (← past (b .rows) freshWarp 32 w l h)
+
 -- lines 4 and 5 come before the others
 first-lines : (s t : Bool) (m : ℕ) → cond s 4 (cond t 5 m) ≡ cond (eqb (cond s 4 (cond t 5 0)) 0) m (cond s 4 (cond t 5 0))
 first-lines true t m = refl
@@ -67,6 +89,15 @@ module _ (b : Block) (w k : ℕ) (c : Call) where
     call-line h n e = rw (arrival-lines, free, lt-leb barrierCount k h, ← e)
 
 -- ---- the ends of an arrival
+
+-- the warp waits
+pub goes-on-waits : (b : Block) (k : ℕ) (r : Barrier) (w : ℕ) (waits : Bool) → waits ≡ true
+    → record {
+      verdict = Accepted 0 false 0;
+      block = record { warps = b .warps; rows = set (b .rows) w (record { status = Waiting k; result = warpAt b w .result }); barriers = set (b .barriers) k r };
+    }
+    ≡ goesOn b k r w waits
+goes-on-waits b k r w waits e = rw e
 
 -- past the last warp row there is none to change
 pub goes-on-kept : (b : Block) (k : ℕ) (r : Barrier) (w : ℕ) (waits : Bool) → length (b .rows) ≡ 32 → waits && ltb w 32 ≡ false

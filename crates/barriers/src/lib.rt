@@ -15,7 +15,7 @@ ghost use Prim.Native.Nat.{_<_};
 ghost use Rattle.sets.specs.Sets.{has};
 ghost use Rattle.block.specs.Tables.{barrierCount, liveOf};
 ghost use Rattle.block.specs.Rows.{resultOf, releasedWarp};
-ghost use Rattle.barriers.specs.Steps.{warpRefusal, callRefusal, refused, releasedWarps, completed, goesOn, arrival as arrivalOf, without as withoutOf, opened as openedOf, exit as exitOf};
+ghost use Rattle.barriers.specs.Steps.{warpRefusal, callRefusal, refused, releasedWarps, completed, arrival as arrivalOf, without as withoutOf, opened as openedOf, exit as exitOf};
 
 // The warps that have not exited, of a block of so many warps and these rows.
 fn live(warps: u8, rows: [Warp; MOST_WARPS as usize]) -> u32
@@ -143,36 +143,18 @@ fn complete(b: Block, k: u8, r: Barrier) -> Turn
     }
 }
 
-// Barrier k goes on with row r, and warp w waits there if its step waits.
-fn go_on(mut b: Block, k: u8, r: Barrier, w: u8, waits: bool) -> Turn
-    requires { ⌜ k < barrierCount ⌝ }
-    ensures { λ t. ⌜ t ≡ goesOn b k r w waits ⌝ }
-{
-    b.barriers[k as usize] = r;
-    if waits & (w < MOST_WARPS) {
-        let row = b.rows[w as usize];
-        b.rows[w as usize] = Warp {
-            status: Status::Waiting(k),
-            result: row.result,
-        };
-    }
-    Turn {
-        verdict: Verdict::Accepted {
-            value: 0,
-            done: false,
-            released: 0,
-        },
-        block: b,
-    }
-}
-
-// Sync, arrive and red: warp w arrives at barrier k.
-pub fn arrival(b: Block, w: u8, k: u8, c: Call) -> Turn
+// Sync, arrive and red: warp w arrives at barrier k. Lines 4 and 5 are read off the warp's row here, and the block is changed in place, since a function that is given the block costs a copy of it.
+pub fn arrival(mut b: Block, w: u8, k: u8, c: Call) -> Turn
     ensures { λ t. ⌜ t ≡ arrivalOf b w k c ⌝ }
 {
-    let n = warp_refusal(b, w);
-    if n != 0 {
-        return refuse(b, n);
+    if b.warps <= w {
+        return refuse(b, 4);
+    }
+    if w < MOST_WARPS {
+        let row = b.rows[w as usize];
+        if !block::is_ready(row) {
+            return refuse(b, 5);
+        }
     }
     if BARRIER_COUNT <= k {
         return refuse(b, 6);
@@ -187,7 +169,22 @@ pub fn arrival(b: Block, w: u8, k: u8, c: Call) -> Turn
     if block::rows::completes(live(b.warps, rows), r) {
         return complete(b, k, r);
     }
-    go_on(b, k, r, w, c.waits)
+    b.barriers[k as usize] = r;
+    if c.waits & (w < MOST_WARPS) {
+        let row = b.rows[w as usize];
+        b.rows[w as usize] = Warp {
+            status: Status::Waiting(k),
+            result: row.result,
+        };
+    }
+    Turn {
+        verdict: Verdict::Accepted {
+            value: 0,
+            done: false,
+            released: 0,
+        },
+        block: b,
+    }
 }
 
 // The block with warp w exited.
