@@ -1,39 +1,19 @@
--- Laws of the room for the text of any trace, of a trace that is too long, of what a call answers that fails, and of what was written.
+-- Laws of the room for the text of any trace, and of what was written.
 -- Assumes nothing.
-use mathlib.Core.Path.{_≡_, sym, ap, _∙_, subst}
+use mathlib.Core.Path.{_≡_, sym, ap, _∙_}
 use mathlib.Core.Bool.{Bool, true, false, cond, _&&_, false≢true}
 use mathlib.Core.List.{List, _++_}
 use Prim.Native.Nat.{ℕ, _-_, _≤_, _<_}
 use native.Mathlib.Omega.{arith}
 use borrow.Author.Tests.{le-leb}
-use lib.IntN.{ℤ}
-use mir.Syntax.{w32, w64}
-use mir.Val.{SFits, ofZ, toZ}
-use mir.Facts.{toZ-ofZ, sfits-widen}
 use lib.ListN.{length, take, drop, length-append}
 use lib.Seq.{length-take-le, take-append-seam, take-at, drop-at}
 use Rattle.text.specs.declared.Laid.the-variants.{Length, Short}
 use Rattle.printed.specs.Text.{mostBytes, roomFor, textOf}
 use Rattle.text.specs.Buffer.{answerOf}
 use Rattle.printed.proofs.Laws.{room-is-enough}
-use Rattle.printed.proofs.Text.{text-long}
-use Rattle.glubotar.specs.declared.input.Read.{Read}
-use Rattle.glubotar.specs.declared.input.Failure.{Failure}
-use Rattle.glubotar.specs.declared.input.Filled.{Filled}
-use Rattle.glubotar.specs.declared.input.Filled.the-variants.{Bytes, Failed}
 use Rattle.glubotar.specs.declared.output.Written.{Written}
-use Rattle.glubotar.specs.Program.{Settled, Reads, Fails, Fills, LaysWhole, next, oneMore, failed, plusFile, FilesAnswered}
-
--- what is known of a trace that was read, and of one that can't be read
-pub fills-read : (number : ℕ) (r : Filled) (read : Read) (buf : List ℕ) → Fills number r buf → r ≡ Bytes read → Reads number read buf
-fills-read number r read buf h e = subst (λ (x : Filled). Fills number x buf) e h
-
-pub fills-failed : (number : ℕ) (r : Filled) (failure : Failure) (buf : List ℕ) → Fills number r buf → r ≡ Failed failure → Fails number failure
-fills-failed number r failure buf h e = subst (λ (x : Filled). Fills number x buf) e h
-
--- more bytes leave a trace that is too long as it is
-pub long-settled : (s : List ℕ) → mostBytes < length s → Settled s
-long-settled s long more = text-long (s ++ more) (omega (arith, length-append s more)) ∙ sym (text-long s long)
+use Rattle.glubotar.specs.Program.{LaysWhole, next, oneMore, failed, plusFile, FilesAnswered}
 
 -- the text of any trace, and a buffer with the room for the longest one's
 module _ (s before : List ℕ) (room : roomFor mostBytes ≤ length before) where
@@ -61,10 +41,6 @@ module _ (s before : List ℕ) (room : roomFor mostBytes ≤ length before) wher
         counts = (fits, sym (length-take-le n after fits));
         text = ap (take n) e ∙ take-at (textOf s) _ n (sym size);
       }
-
--- an i32 that is put into bits and read back, and then at 64 bits
-pub wide-fits : (z : ℤ) → SFits w32 z → SFits w64 (toZ w32 (ofZ w32 z))
-wide-fits z f = rw (toZ-ofZ {w = w32} {z = z} f) (sfits-widen {w = w32} tt f)
 
 -- what was written tells by itself whether it is x, where all was written, or y, where not
 pub own-all : (a b : Bool) (x y r : Written) → x .all ≡ true → y .all ≡ false → r ≡ cond (a && b) x y → r ≡ cond (a && r .all) x y

@@ -1,17 +1,17 @@
 // The checker's program: reads traces, lays their text by the library and writes it.
 // Without arguments the trace is standard input; else each argument names a trace file.
-mod input;
 mod output;
 
-use input::Filled;
-use input::Read;
-use input::TRACE_ROOM;
 use output::Written;
+use reading::Filled;
+use reading::Read;
+use reading::TRACE_ROOM;
 use text::Laid;
 ghost use mathlib.Core.Path.{_≡_};
 ghost use Prim.Native.Nat.{_+_};
 ghost use Rattle.io.specs.Counts.{Counts};
-ghost use Rattle.glubotar.specs.Program.{readOf, inputAnswered, plusFile, LaysWhole, FilesAnswered, Answered};
+ghost use Rattle.reading.specs.Reading.{readOf};
+ghost use Rattle.glubotar.specs.Program.{inputAnswered, plusFile, LaysWhole, FilesAnswered, Answered};
 
 // The room for the text of any trace: text::room(65537). In less lay_whole could not keep its promise.
 const TEXT_ROOM: usize = 1835120;
@@ -21,7 +21,7 @@ fn lay_whole(read: Read, buf: &[u8], text: &mut [u8; TEXT_ROOM]) -> usize
     requires { ⌜ Counts (read .len) (now buf) ⌝ }
     ensures { λ r. ⌜ LaysWhole (readOf read (now (buf .entry))) (now (text .entry)) r (now (text .exit)) ⌝ }
 {
-    let n = input::size(read);
+    let n = reading::size(read);
     let laid = text::lay(&buf[..n], &mut *text);
     match laid {
         Laid::Length(length) => length,
@@ -33,7 +33,7 @@ fn lay_whole(read: Read, buf: &[u8], text: &mut [u8; TEXT_ROOM]) -> usize
 fn from_input(trace: &mut [u8; TRACE_ROOM], text: &mut [u8; TEXT_ROOM]) -> Written
     ensures { λ r. ⌜ r ≡ inputAnswered (r .all) ⌝ }
 {
-    let filled = input::standard(&mut *trace);
+    let filled = reading::standard(&mut *trace);
     match filled {
         Filled::Bytes(read) => {
             let buf: &[u8] = trace;
@@ -56,7 +56,7 @@ fn argument(
     ensures { λ r. ⌜ r ≡ plusFile before (r .all) ⌝ }
 {
     let mut room = io::buffer();
-    let filled = input::argument(i, &mut room, &mut *trace);
+    let filled = reading::argument(i, &mut room, &mut *trace);
     let name: &[u8] = &room;
     match filled {
         Filled::Bytes(read) => {

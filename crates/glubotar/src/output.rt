@@ -1,13 +1,13 @@
 // Writing the answers. What was written so far is told by a `Written`. Only the functions here make one: `none`, and those that write an answer, which add it to what was written before. So no other function can count an answer that was not written, or count one twice.
-use crate::input;
-use crate::input::Failure;
-use crate::input::Read;
 use libc::STDOUT_FILENO;
+use reading::Failure;
+use reading::Read;
 ghost use mathlib.Core.Path.{_≡_};
 ghost use Prim.Native.Nat.{_+_};
 ghost use Rattle.io.specs.Counts.{Counts};
 ghost use Rattle.printed.specs.Text.{textOf};
-ghost use Rattle.glubotar.specs.Program.{next, nothing, inputAnswered, plusFile, readOf};
+ghost use Rattle.reading.specs.Reading.{readOf};
+ghost use Rattle.glubotar.specs.Program.{next, nothing, inputAnswered, plusFile};
 
 // The largest number that a counter holds.
 const MOST: usize = 18446744073709551615;
@@ -118,7 +118,7 @@ pub(crate) fn file_text(
     requires { ⌜ now bytes ≡ textOf (readOf read (now buf)) ⌝ }
     ensures { λ r. ⌜ r ≡ plusFile before (r .all) ⌝ }
 {
-    let n = input::path(read);
+    let n = reading::path(read);
     let named = line(before.all, b"file ", &name[..n]);
     let done = put(named, bytes);
     add_file(before, done)
@@ -130,7 +130,7 @@ pub(crate) fn file_unreadable(before: Written, failure: Failure, name: &[u8]) ->
     requires { ⌜ Counts (failure .path) (now name) ⌝ }
     ensures { λ r. ⌜ r ≡ plusFile before (r .all) ⌝ }
 {
-    let n = input::failed_path(failure);
+    let n = reading::failed_path(failure);
     let done = line(before.all, b"unreadable ", &name[..n]);
     add_file(before, done)
 }

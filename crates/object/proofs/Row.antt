@@ -1,19 +1,16 @@
 -- What a step answers: one law for each line of the table, and one for a step that no line holds of.
 -- Assumes nothing.
-use mathlib.Core.Path.{_≡_, refl, sym, _∙_}
+use mathlib.Core.Path.{_≡_, refl, _∙_}
 use mathlib.Core.Bool.{Bool, true, false, cond, _&&_, _||_}
 use Prim.Native.Nat.{ℕ, _≤_, _<_}
 use lib.Dec.{eqb, ltb, leb}
 use borrow.Author.Tests.{ltb-false, leb-false}
-use lib.IntN.{ℤ}
 use Rattle.folds.specs.Folds.{lowest}
 use Rattle.object.specs.declared.Object.{Object}
 use Rattle.object.specs.declared.Act.{Act}
 use Rattle.object.specs.declared.Answer.{Answer}
 use Rattle.object.specs.declared.Answer.the-variants.{Refused, Accepted}
-use Rattle.object.specs.declared.Moved.{Moved}
-use Rattle.object.specs.declared.Moved.the-variants.{Out, To}
-use Rattle.object.specs.Row.{lastPhase, withTx, outside, acted, bothZero, nextPhase, mayEnd, ends, rowAfter, valueOf, noComplete, notLive, alreadyLive, badCount, outOfRange, unseen, endsQuietly, endsLast, badToken, badParity, badArrival, unless, stepRow}
+use Rattle.object.specs.Row.{lastPhase, acted, bothZero, nextPhase, mayEnd, ends, rowAfter, valueOf, noComplete, notLive, alreadyLive, badCount, outOfRange, unseen, endsQuietly, endsLast, badToken, badParity, badArrival, unless, stepRow}
 
 pub or-left : (a b : Bool) → a || b ≡ false → a ≡ false
 or-left true b p = p
@@ -82,23 +79,6 @@ module _ (o : Object) (slot : ℕ) (a : Act) where
                 pub no-line : badParity a ≡ false → Accepted (rowAfter o a) (valueOf o slot a) (ends o a) ≡ stepRow o slot a
                 unfolding stepRow lowest
                 no-line h = simp (h12, h13, h14, h15, h16, h17, h18, h19, h)
-
--- ---- a row whose transaction count was to be z
-
-module _ (o : Object) (z : ℤ) (m : Moved) (e : m ≡ cond (outside z) Out (To (withTx o z))) where
-  pub went-out : m ≡ Out → outside z ≡ true
-  went-out k = by (outside z) (sym e ∙ k)
-    where
-      by : (b : Bool) → cond b Out (To (withTx o z)) ≡ Out → b ≡ true
-      by true p = refl
-      by false p = cc
-
-  pub stayed-in : (r : Object) → m ≡ To r → (outside z ≡ false) × (r ≡ withTx o z)
-  stayed-in r k = by (outside z) (sym e ∙ k)
-    where
-      by : (b : Bool) → cond b Out (To (withTx o z)) ≡ To r → (b ≡ false) × (r ≡ withTx o z)
-      by true p = (cc, cc)
-      by false p = (refl, cc)
 
 -- ---- a count that is not refused
 

@@ -1,10 +1,10 @@
 -- What is claimed of every step: refused exactly by the lowest line that holds, a phase completed exactly at both zeros.
 -- Assumes nothing.
 use mathlib.Core.Path.{_≡_, refl, sym, ap, _∙_}
-use mathlib.Core.Bool.{Bool, true, false}
+use mathlib.Core.Bool.{Bool, true, false, not, _||_}
 use Prim.Native.Nat.{ℕ, zero, suc, _+_, _<_}
 use native.Mathlib.Omega.{arith}
-use borrow.Author.Tests.{eqb-true}
+use borrow.Author.Tests.{eqb-true, not-false}
 use lib.Dec.{eqb}
 use lib.IntN.{ℤ, pos, negsuc}
 use lib.ListN.{getD}
@@ -15,9 +15,10 @@ use Rattle.object.specs.declared.Act.the-variants.{Init, Inval, Arrive, 
 use Rattle.object.specs.declared.Answer.{Answer}
 use Rattle.object.specs.declared.Answer.the-variants.{Refused, Accepted}
 use Rattle.folds.specs.Lowest.{ascending, holds, Lowest}
-use Rattle.object.specs.Row.{isZero, bothZero, acted, mayEnd, ends, nextPhase, rowAfter, valueOf, badArrival, lines, refusal, unless, stepRow, rowOf}
-use Rattle.object.specs.Steps.{RefusedExactly, AcceptedExactly, RefusedLeaves, Completed, CompletesSo, CompletesExactly, Arrived, ArrivesSo}
-use Rattle.object.proofs.Row.{count-within, count-below}
+use Rattle.object.specs.Tokens.{slotIn, tooLarge}
+use Rattle.object.specs.Row.{isZero, bothZero, acted, mayEnd, ends, nextPhase, rowAfter, valueOf, badArrival, farPhase, lines, refusal, unless, stepRow, rowOf}
+use Rattle.object.specs.Steps.{RefusedExactly, AcceptedExactly, RefusedLeaves, Completed, CompletesSo, CompletesExactly, ExpectCompletesNone, OwnToken, Arrived, ArrivesSo}
+use Rattle.object.proofs.Row.{or-left, or-right, count-within, count-below}
 use Rattle.folds.proofs.Lowest.{lowest-given, none-holds}
 
 -- ---- an answer and its refusal number
@@ -118,6 +119,17 @@ completes-exactly o slot a o′ v d m e =
       ),
       λ z. q ∙ rw (z .0, z .1),
     )
+
+pub expect-completes-none : ExpectCompletesNone
+expect-completes-none o slot x o′ v d e = accepted-as o slot (Expect x) o′ v d e .3
+
+-- ---- a test by token
+
+pub own-token : OwnToken
+own-token o slot t o′ v d e =
+    let b = passes o slot (Token t) (accepted-as o slot (Token t) o′ v d e .0) 7 in
+    let a = or-left (tooLarge t || not (eqb (slotIn t) slot)) (farPhase o t) b in
+    eqb-true (slotIn t) slot (not-false (eqb (slotIn t) slot) (or-right (tooLarge t) (not (eqb (slotIn t) slot)) a))
 
 -- ---- an arrival that completes no phase
 

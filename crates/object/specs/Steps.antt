@@ -7,9 +7,10 @@ use Prim.Native.Nat.{ℕ, _+_}
 use lib.IntN.{pos, _+ℤ_}
 use Rattle.object.specs.declared.Object.{Object}
 use Rattle.object.specs.declared.Act.{Act}
-use Rattle.object.specs.declared.Act.the-variants.{Arrive}
+use Rattle.object.specs.declared.Act.the-variants.{Arrive, Expect, Token}
 use Rattle.object.specs.declared.Answer.the-variants.{Refused, Accepted}
 use Rattle.folds.specs.Lowest.{Lowest, None}
+use Rattle.object.specs.Tokens.{slotIn}
 use Rattle.object.specs.Row.{acted, mayEnd, ends, rowAfter, valueOf, lines, stepRow, rowOf}
 
 -- a step is refused with n exactly when line n holds and no lower line does
@@ -43,6 +44,14 @@ abbrev pub CompletesExactly : Type 0
 CompletesExactly =
     (o : Object) (slot : ℕ) (a : Act) (o′ : Object) (v : ℕ) (d : Bool) → mayEnd a ≡ true → stepRow o slot a ≡ Accepted o′ v d
     → (d ≡ true) ↔ ((acted o a .pending ≡ 0) × (acted o a .tx ≡ pos 0))
+
+-- "not after an expect alone": an accepted expect completes no phase
+abbrev pub ExpectCompletesNone : Type 0
+ExpectCompletesNone = (o : Object) (slot x : ℕ) (o′ : Object) (v : ℕ) (d : Bool) → stepRow o slot (Expect x) ≡ Accepted o′ v d → d ≡ false
+
+-- "in a test also another object's": a test accepts only a token of its own object
+abbrev pub OwnToken : Type 0
+OwnToken = (o : Object) (slot t : ℕ) (o′ : Object) (v : ℕ) (d : Bool) → stepRow o slot (Token t) ≡ Accepted o′ v d → slotIn t ≡ slot
 
 -- what an accepted arrival leaves that completes no phase
 pub record Arrived (o : Object) (n : ℕ) (drop : Bool) (x : ℕ) (o′ : Object) : Type 0 where

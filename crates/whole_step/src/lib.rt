@@ -134,7 +134,7 @@ fn on_object(b: Block, row: Object, w: u8, a: u16, o: ObjectStep) -> Taken
     if (a % 8 != 0) | (504 < a) {
         return refuse(b, row, 11);
     }
-    answer(b, row, object::step(row, (a / 8) as u8, act_of(o)))
+    answer(b, row, acts::step(row, (a / 8) as u8, act_of(o)))
 }
 
 // A pending count of warp w.

@@ -3,9 +3,9 @@
 use mathlib.Core.Path.{_∙_, subst}
 use borrow.Author.Needs.{needs}
 use Rattle.io.specs.Counts.{Counts}
-use Rattle.glubotar.specs.declared.input.Filled.{Filled}
-use Rattle.glubotar.specs.Program.{pathOf}
-use Rattle.glubotar.proofs.Program.{fills-read, fills-failed}
+use Rattle.reading.specs.declared.Filled.{Filled}
+use Rattle.reading.specs.Reading.{pathOf}
+use Rattle.reading.proofs.Reading.{fills-read, fills-failed}
 use Rattle.glubotar.proofs.argument.Statement.{statement}
 use Rattle.glubotar.proofs.argument.Tie as tie
 

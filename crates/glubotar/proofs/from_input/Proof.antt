@@ -1,7 +1,7 @@
 -- `glubotar::from_input` meets its contract: what was read lies within the buffer, and what is written is its text.
 -- Assumes nothing.
 use borrow.Author.Needs.{needs}
-use Rattle.glubotar.proofs.Program.{fills-read, fills-failed}
+use Rattle.reading.proofs.Reading.{fills-read, fills-failed}
 use Rattle.glubotar.proofs.from_input.Statement.{statement}
 use Rattle.glubotar.proofs.from_input.Tie as tie
 
