@@ -9,7 +9,7 @@ ghost use Rattle.printed.specs.Text.{traceRefusal};
 ghost use Rattle.looking.specs.Places.{firstPlace, looked};
 
 // A trace has at most 65,536 bytes.
-const MOST_BYTES: usize = 65536;
+pub const MOST_BYTES: usize = 65536;
 
 // A block has at most 32 warps.
 const MOST_WARPS: u8 = 32;
