@@ -1,3 +1,4 @@
 pub mod Lend
+pub mod Spelt
 pub mod Entries
 pub mod Laws

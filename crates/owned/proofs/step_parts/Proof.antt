@@ -65,6 +65,7 @@ use Rattle.owned.specs.Owner.{bundled, ownedStep}
 use Rattle.owned.proofs.OwnedTurn as G
 use Rattle.owned.proofs.OwnedTurn.Laws as G′
 use Rattle.lent.proofs.Lend.{rows-lent, rows-lent-back, record-lent, record-lent-back}
+use Rattle.lent.proofs.Spelt.{R, vals-R, tells-R, spelt-R, spelt-T, spelt-N}
 use Rattle.lent.proofs.step as step
 use Rattle.lent.proofs.step.Symbol as step-def
 use Rattle.lent.proofs.step.Symbol.{name as #lent·step}
@@ -77,13 +78,6 @@ use Rattle.owned.proofs.step_parts.Key.{name as #owned·step-parts}
 use Rattle.owned.proofs.step_parts as step-parts
 use Rattle.owned.proofs.step_parts.Statement as stated
 use Rattle.owned.proofs.step_parts.Code as code
-
--- the array of rows
-abbrev R : RattleType
-R = Array O.the-row 64
-
-abbrev vals-R : List Object → List Val
-vals-R = array-vals (LL.vals O.the-type O′.the-laws)
 
 abbrev stayed : Stays (step-parts.ended .signature .params) (step-parts.ended .kept)
 stayed = (stay-none (λ _. B.the-row) yes, (stay-none (λ _. R) yes, (stay-none (λ _. T.the-row) yes, (stay-none (λ _. S.the-row) yes, tt))))
@@ -184,18 +178,6 @@ module _ {M : Type 1} (𝓤 : URA M) (H : Heap 𝓤) (A : Atoms 𝓤) (W : Given
         returns ! (look ! 25 refl) $ move ! (25 ∷ 26 ∷ 23 ∷ 24 ∷ 21 ∷ 22 ∷ 19 ∷ 20 ∷ 17 ∷ 18 ∷ 1 ∷ 16 ∷ 0 ∷ 15 ∷ 13 ∷ 14 ∷ 11 ∷ 12 ∷ 9 ∷ 10 ∷ 7 ∷ 8 ∷ 5 ∷ 6 ∷ 3 ∷ 4 ∷ []) $
         gone1 ! $ gone1 ! $ gone1 ! $ gone1 ! $ gone1 ! $ gone1 ! $ gone1 ! $ gone1 ! $ gone1 ! $ gone1 ! $ gone1 ! $ gone1 ! $ gone1 ! $ free0 ! $ keep ! [] $ by ! (exits r (ws .1 .0) (ws .1 .1 .0) e is-g)))))))))))))))))))))))))))))
       where
-        tells-R : (zs : List Object) (vs : List Val) → Is R zs vs → vs ≡ vals-R zs
-        tells-R = array-tells O.the-row (LL.vals O.the-type O′.the-laws) (LL.tells O.the-type O′.the-laws) 64
-
-        spelt-R : (zs : List Object) (u : Val) → Is R zs (u ∷ []) → Is R zs (vals-R zs)
-        spelt-R zs u is = subst (Is R zs) (tells-R zs (u ∷ []) is) is
-
-        spelt-T : (t : Tally) (u : Val) → Is T.the-row t (u ∷ []) → Is T.the-row t (LL.vals T.the-type T′.the-laws t)
-        spelt-T t u is = subst (Is T.the-row t) (LL.tells T.the-type T′.the-laws t (u ∷ []) is) is
-
-        spelt-N : (r : Turn) (u : Val) → Is N.the-row r (u ∷ []) → Is N.the-row r (LL.vals N.the-type N′.the-laws r)
-        spelt-N r u is = subst (Is N.the-row r) (LL.tells N.the-type N′.the-laws r (u ∷ []) is) is
-
         typed-R : (zs : List Object) → Is R zs (vals-R zs) → Tr (hasTy (tyArray O′.mir 64) (only (vals-R zs))) × WT (only (vals-R zs))
         typed-R zs is = array-lawful 𝓤 H A W O.the-row (LL.lawful O.the-type O′.the-laws 𝓤 H A W) 64 .typed zs _ is .0
 

@@ -76,6 +76,7 @@ use Rattle.tables.proofs.Tally.Laws as T′
 use Rattle.rows.proofs.Walk.{is-false, forks, gone1, concluded, over}
 use Rattle.lent.specs.Entries.{stateOf, Stepped}
 use Rattle.lent.proofs.Lend.{Back, rows-shared, rows-shared-back, rows-lent, rows-lent-back, record-lent, record-lent-back, calls-lending}
+use Rattle.lent.proofs.Spelt.{R, vals-R, tells-R, spelt-R, spelt-T, spelt-N}
 use Rattle.lent.proofs.step as step
 use Rattle.lent.proofs.step.Symbol as step-def
 use Rattle.lent.proofs.step.Symbol.{name as #lent·step}
@@ -101,13 +102,6 @@ use Rattle.text.proofs.lay_turns as lay-turns
 use Rattle.text.proofs.lay_turns.Statement as stated
 use Rattle.text.proofs.lay_turns.Code as code
 use Rattle.text.proofs.lay_turns.Code.Mir as steps
-
--- the array of rows
-abbrev R : RattleType
-R = Array O.the-row 64
-
-abbrev vals-R : List Object → List Val
-vals-R = array-vals (LL.vals O.the-type O′.the-laws)
 
 abbrev val-B : Block → Val
 val-B = LL.val B.the-type B′.the-laws
@@ -201,18 +195,6 @@ module _ {M : Type 1} (𝓤 : URA M) (H : Heap 𝓤) (A : Atoms 𝓤) (W : Given
 
   typed-B : (r : Block) → Is B.the-row r (LL.vals B.the-type B′.the-laws r) → Tr (hasTy B′.mir (val-B r)) × WT (val-B r)
   typed-B r is = LL.lawful B.the-type B′.the-laws 𝓤 H A W .typed r _ is .0
-
-  tells-R : (zs : List Object) (vs : List Val) → Is R zs vs → vs ≡ vals-R zs
-  tells-R = array-tells O.the-row (LL.vals O.the-type O′.the-laws) (LL.tells O.the-type O′.the-laws) 64
-
-  spelt-R : (zs : List Object) (u : Val) → Is R zs (u ∷ []) → Is R zs (vals-R zs)
-  spelt-R zs u is = subst (Is R zs) (tells-R zs (u ∷ []) is) is
-
-  spelt-T : (t : Tally) (u : Val) → Is T.the-row t (u ∷ []) → Is T.the-row t (LL.vals T.the-type T′.the-laws t)
-  spelt-T t u is = subst (Is T.the-row t) (LL.tells T.the-type T′.the-laws t (u ∷ []) is) is
-
-  spelt-N : (r : Turn) (u : Val) → Is N.the-row r (u ∷ []) → Is N.the-row r (LL.vals N.the-type N′.the-laws r)
-  spelt-N r u is = subst (Is N.the-row r) (LL.tells N.the-type N′.the-laws r (u ∷ []) is) is
 
   abbrev array : Ty
   array = tyArray O′.mir 64
