@@ -7,7 +7,6 @@ use Prim.Native.Nat.{ℕ, _+_, _/_, _<_}
 use native.Mathlib.Omega.{arith}
 use borrow.Author.Tests.{leb-true}
 use Rattle.steps.specs.declared.ObjectStep.{ObjectStep}
-use Rattle.steps.specs.declared.Op.the-variants as op
 use Rattle.steps.specs.declared.Step.{Step}
 use Rattle.object.specs.declared.Object.{Object}
 use Rattle.object.specs.declared.Act.{Act}

@@ -24,10 +24,10 @@ use types.SemTy.{Body}
 use types.Share.{arr-parts}
 use types.Tokens.{lft-new, lft-end}
 use sound.WpLaws.{FmC, fmOf}
-use denote.RattleType.{RattleType, owns}
+use denote.RattleType.{owns}
 use denote.Laws.{Is, shows}
 use denote.Memory.{mem, shares, partAt, pointee}
-use denote.Array.{Array, array-vals, array-tells, array-lawful, array-makes}
+use denote.Array.{array-tells, array-lawful, array-makes}
 use denote.ArrayMemory.{array-apart, array-whole}
 use denote.Ref.{MutRef}
 use denote.Slice.{sliceTy, sliceVal, MutSlice, Room}

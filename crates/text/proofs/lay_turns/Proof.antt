@@ -1,7 +1,7 @@
 -- `text::lay_turns` meets its contract: a walk of its MIR, by hand. The trace is looked into and the buffer opened once, before the loop. A turn lends a share of the trace to `look`, the list and the tally, which lie in two locals, to `lent::step`, and the buffer to `lay_line`.
 -- The invariant: what is left to lay, laid, gives what all of it gives. Assumes nothing.
 use mathlib.Core.Path.{_≡_, refl, sym, _∙_, ap, subst}
-use mathlib.Core.Bool.{Bool, true, false, not}
+use mathlib.Core.Bool.{true, false, not}
 use mathlib.Core.Option.{some as there}
 use mathlib.Core.WellFounded.{WellFounded, InvImage·wf}
 use Prim.Native.Nat.{ℕ, _+_, _-_, _<_}
@@ -30,13 +30,13 @@ use types.SemTy.{Body}
 use types.Share.{arr-parts}
 use types.Tokens.{lft-new, lft-end}
 use sound.WpLaws.{FmC, fmOf}
-use denote.RattleType.{RattleType, owns}
+use denote.RattleType.{owns}
 use denote.Laws.{Is, shows}
 use denote.Memory.{mem, shares, partAt, pointee}
 use denote.Plain.{uint-vals, uint-tells, uint-copy}
 use denote.Builtin.{u8}
 use denote.Shadow.{pureI}
-use denote.Array.{Array, array-vals, array-tells, array-lawful, array-makes}
+use denote.Array.{array-tells, array-lawful, array-makes}
 use denote.ArrayMemory.{array-apart, array-whole}
 use denote.Ref.{RefT, MutRef}
 use denote.Slice.{sliceTy, sliceVal, MutSlice, ShrSlice, Room, slice-vals, mut-slice-tells, shr-slice-tells, at-slice, heres, codedHoleys}
@@ -55,7 +55,6 @@ use denote.Triple.Table.{cited}
 use denote.Triple.Walked.{says, needs, Stays, stay-none, stay-none-slice, stay-slice, walkOf, Walks, ends-at, walked, goes-none, goes-none-slice, goes-slice}
 use denote.Exit.{yes}
 use borrow.Table.OneValue.{part-in, part-out}
-use Rattle.steps.specs.declared.Step.{Step}
 use Rattle.steps.proofs.Step as S
 use Rattle.steps.proofs.Step.Laws as S′
 use Rattle.object.specs.declared.Object.{Object}
