@@ -1,20 +1,17 @@
 -- Laws of the steps: which line refuses an arrival, and the ends of an arrival and of an exit.
 -- Assumes nothing.
 use mathlib.Core.Path.{_≡_, refl, sym, ap, subst, _∙_}
-use mathlib.Core.Bool.{Bool, true, false, cond, _&&_}
+use mathlib.Core.Bool.{Bool, true, false, not, cond}
 use Prim.Native.Nat.{ℕ, _<_, _≤_}
-use lib.Dec.{eqb, ltb}
-use lib.ListN.{length, set}
-use lib.Seq.{set-out}
-use borrow.Author.Tests.{ne-eqb, lt-ltb, le-ltb, ltb-false, le-leb, lt-leb}
+use lib.Dec.{eqb}
+use borrow.Author.Tests.{ne-eqb, lt-ltb, le-ltb, le-leb, lt-leb}
 use Rattle.folds.specs.Folds.{lowest}
 use Rattle.sets.specs.Sets.{has}
-use Rattle.block.specs.Tables.{barrierCount, freshWarp, isIdle, warpAt, barrierAt, liveOf}
+use Rattle.block.specs.Tables.{barrierCount, isIdle, isReady, warpAt, barrierAt, liveOf}
 use Rattle.block.specs.Rows.{badCount, differs, arrivedRow, completes}
-use Rattle.barriers.specs.Steps.{noSuchWarp, notReady, noSuchBarrier, warpRefusal, arrivalRefusal, callRefusal, completed, goesOn, refused, arrival, without, opened, exit}
-use Rattle.block.proofs.Tables.{past}
-use Rattle.block.specs.declared.Status.the-variants.{Waiting}
+use Rattle.barriers.specs.Steps.{noSuchWarp, notReady, noSuchBarrier, warpLine, warpRefusal, arrivalRefusal, callRefusal, completed, goesOn, refused, arrival, without, opened, exit}
 use Rattle.block.specs.declared.Verdict.the-variants.{Accepted}
+use Rattle.block.specs.declared.Warp.{Warp}
 use Rattle.block.specs.declared.Barrier.{Barrier}
 use Rattle.block.specs.declared.Block.{Block}
 use Rattle.block.specs.declared.Call.{Call}
@@ -47,23 +44,24 @@ module _ (n : ℕ) (r : Barrier) (w : ℕ) (c : Call) where
 
 -- ---- which line refuses a step of a warp
 
-module _ (b : Block) (w : ℕ) where
-  pub warp-4 : b .warps ≤ w → 4 ≡ warpRefusal b w
-  unfolding warpRefusal lowest
-  warp-4 h = rw (le-leb (b .warps) w h)
+module _ (n : ℕ) (x : Warp) (w : ℕ) where
+  pub row-4 : n ≤ w → 4 ≡ warpLine n x w
+  unfolding warpLine lowest
+  row-4 h = rw (le-leb n w h)
 
-  module _ (there : w < b .warps) where
-    pub warp-5 : notReady b w ≡ true → 5 ≡ warpRefusal b w
-    unfolding warpRefusal lowest
-    warp-5 e = rw (lt-leb (b .warps) w there, e)
+  module _ (there : w < n) where
+    pub row-5 : not (isReady (x .status)) ≡ true → 5 ≡ warpLine n x w
+    unfolding warpLine lowest
+    row-5 e = rw (lt-leb n w there, e)
 
-    pub warp-free : notReady b w ≡ false → 0 ≡ warpRefusal b w
-    unfolding warpRefusal lowest
-    warp-free e = rw (lt-leb (b .warps) w there, e)
+    pub row-free : not (isReady (x .status)) ≡ false → 0 ≡ warpLine n x w
+    unfolding warpLine lowest
+    row-free e = rw (lt-leb n w there, e)
 
--- past the last warp row every warp is ready
-pub past-ready : (b : Block) (w : ℕ) → length (b .rows) ≡ 32 → 32 ≤ w → notReady b w ≡ false
-past-ready b w l h = rw (← past (b .rows) freshWarp 32 w l h)
+-- a block's warp is refused as its row is
+pub row-line : (b : Block) (w : ℕ) → warpLine (b .warps) (warpAt b w) w ≡ warpRefusal b w
+unfolding warpLine warpRefusal
+row-line b w = refl
 
 -- lines 4 and 5 come before the others
 first-lines : (s t : Bool) (m : ℕ) → cond s 4 (cond t 5 m) ≡ cond (eqb (cond s 4 (cond t 5 0)) 0) m (cond s 4 (cond t 5 0))
@@ -89,22 +87,6 @@ module _ (b : Block) (w k : ℕ) (c : Call) where
     call-line h n e = rw (arrival-lines, free, lt-leb barrierCount k h, ← e)
 
 -- ---- the ends of an arrival
-
--- the warp waits
-pub goes-on-waits : (b : Block) (k : ℕ) (r : Barrier) (w : ℕ) (waits : Bool) → waits ≡ true
-    → record {
-      verdict = Accepted 0 false 0;
-      block = record { warps = b .warps; rows = set (b .rows) w (record { status = Waiting k; result = warpAt b w .result }); barriers = set (b .barriers) k r };
-    }
-    ≡ goesOn b k r w waits
-goes-on-waits b k r w waits e = rw e
-
--- past the last warp row there is none to change
-pub goes-on-kept : (b : Block) (k : ℕ) (r : Barrier) (w : ℕ) (waits : Bool) → length (b .rows) ≡ 32 → waits && ltb w 32 ≡ false
-    → record { verdict = Accepted 0 false 0; block = record { warps = b .warps; rows = b .rows; barriers = set (b .barriers) k r } }
-    ≡ goesOn b k r w waits
-goes-on-kept b k r w true l e = rw (set-out (b .rows) w _ (rw l (ltb-false w 32 e)))
-goes-on-kept b k r w false l e = refl
 
 module _ (b : Block) (w k : ℕ) (c : Call) where
   pub is-refused : (n : ℕ) → n ≡ arrivalRefusal b w k c → (n ≡ 0 → ⊥) → refused b n ≡ arrival b w k c

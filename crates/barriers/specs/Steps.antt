@@ -7,9 +7,9 @@ use lib.Dec.{eqb, leb, ltb}
 use lib.ListN.{set}
 use Rattle.folds.specs.Folds.{first, every, lowest, firsts}
 use Rattle.sets.specs.Sets.{has, part}
-use Rattle.block.specs.Tables.{mostWarps, barrierCount, idle, warpAt, barrierAt, isIdle, isReady, liveOf}
+use Rattle.block.specs.Tables.{mostWarps, barrierCount, idle, warpAt, barrierAt, isIdle, isReduction, isReady, liveOf}
 use Rattle.block.specs.Rows.{badCount, differs, arrivedRow, completes, resultOf, releasedWarp}
-use Rattle.block.specs.declared.Status.the-variants.{Waiting, Exited}
+use Rattle.block.specs.declared.Status.the-variants.{Ready, Waiting, Exited}
 use Rattle.block.specs.declared.Warp.{Warp}
 use Rattle.block.specs.declared.Barrier.{Barrier}
 use Rattle.block.specs.declared.Block.{Block}
@@ -48,6 +48,10 @@ alreadyArrived b k w = has (barrierAt b k .arrived) w
 unfoldable pub warpRefusal : Block → ℕ → ℕ
 warpRefusal b w = lowest ((noSuchWarp b w, 4) ∷ (notReady b w, 5) ∷ [])
 
+-- the same of a warp's row, in a block of so many warps
+unfoldable pub warpLine : ℕ → Warp → ℕ → ℕ
+warpLine warps x w = lowest ((leb warps w, 4) ∷ (not (isReady (x .status)), 5) ∷ [])
+
 -- the lowest line that applies to an arrival of warp w at barrier k, and 0 if none does; a form that is Idle stands for a bad selector
 unfoldable pub arrivalRefusal : Block → ℕ → ℕ → Call → ℕ
 arrivalRefusal b w k c =
@@ -68,6 +72,10 @@ callRefusal warps r w c =
     lowest ((badCount warps (c .threads), 7) ∷ (isIdle (c .form), 8) ∷ (differs r c, 9) ∷ (has (r .arrived) w, 10) ∷ [])
 
 -- ---- an arrival
+
+-- the row of warp w after a barrier of row r has completed with this result: if it waited there it is ready, and of a red it gets the result
+abbrev pub freedWarp : Barrier → ℕ → ℕ → Warp → Warp
+freedWarp r value w x = cond (has (r .waiting) w) (record { status = Ready; result = cond (isReduction (r .form)) value (x .result) }) x
 
 -- the warp rows with the waiting warps released
 abbrev pub releasedWarps : Barrier → List Warp → List Warp

@@ -5,17 +5,29 @@ use block::Block;
 use block::Call;
 use block::MOST_WARPS;
 use block::Status;
-use block::Turn;
 use block::Verdict;
 use block::Warp;
 ghost use mathlib.Core.Path.{_≡_};
-ghost use mathlib.Core.Bool.{cond};
 ghost use mathlib.Core.List.{[]};
-ghost use Prim.Native.Nat.{_<_};
-ghost use Rattle.sets.specs.Sets.{has};
-ghost use Rattle.block.specs.Tables.{barrierCount, liveOf};
-ghost use Rattle.block.specs.Rows.{resultOf, releasedWarp};
-ghost use Rattle.barriers.specs.Steps.{warpRefusal, callRefusal, refused, releasedWarps, completed, arrival as arrivalOf, without as withoutOf, opened as openedOf, exit as exitOf};
+ghost use Rattle.block.specs.Tables.{warpAt, liveOf};
+ghost use Rattle.block.specs.Rows.{resultOf};
+ghost use Rattle.barriers.specs.Steps.{warpLine, callRefusal, freedWarp, releasedWarps, opened as openedOf, exit as exitOf};
+ghost use Rattle.barriers.specs.Changes.{withStatus, withBarrier, changed as changedOf, noChange, refusing, goingOn, completing, made, Arrives};
+
+// What a step changes in the block: the status of a warp, the row of a barrier, and the row whose waiting warps are released. Warp 32, barrier 16 and an idle row stand for none.
+pub struct Change {
+    pub warp: usize,
+    pub status: Status,
+    pub barrier: usize,
+    pub row: Barrier,
+    pub freed: Barrier,
+}
+
+// A verdict, and what the step changes in the block.
+pub struct Moved {
+    pub verdict: Verdict,
+    pub change: Change,
+}
 
 // The warps that have not exited, of a block of so many warps and these rows.
 fn live(warps: u8, rows: [Warp; MOST_WARPS as usize]) -> u32
@@ -36,18 +48,15 @@ fn live(warps: u8, rows: [Warp; MOST_WARPS as usize]) -> u32
     set
 }
 
-// The lowest of lines 4 and 5 that applies to a step of warp w, and 0 if none does.
-pub fn warp_refusal(b: Block, w: u8) -> u8
-    ensures { λ r. ⌜ r ≡ warpRefusal b w ⌝ }
+// The lowest of lines 4 and 5 that applies to a step of warp w, whose row is this, in a block of so many warps, and 0 if none does.
+pub fn warp_refusal(warps: u8, row: Warp, w: u8) -> u8
+    ensures { λ r. ⌜ r ≡ warpLine warps row w ⌝ }
 {
-    if b.warps <= w {
+    if warps <= w {
         return 4;
     }
-    if w < MOST_WARPS {
-        let row = b.rows[w as usize];
-        if !block::is_ready(row) {
-            return 5;
-        }
+    if !block::is_ready(row) {
+        return 5;
     }
     0
 }
@@ -73,20 +82,76 @@ fn call_refusal(warps: u8, r: Barrier, w: u8, c: Call) -> u8
     0
 }
 
-// A step refused with line n leaves the block.
-fn refuse(b: Block, n: u8) -> Turn
-    ensures { λ t. ⌜ t ≡ refused b n ⌝ }
+// No change.
+pub fn no_change() -> Change
+    ensures { λ r. ⌜ r ≡ noChange ⌝ }
 {
-    Turn {
-        verdict: Verdict::Refused(n),
-        block: b,
+    let idle = block::rows::idle_row();
+    Change {
+        warp: MOST_WARPS as usize,
+        status: Status::Ready,
+        barrier: BARRIER_COUNT as usize,
+        row: idle,
+        freed: idle,
     }
 }
 
-// The row of a warp after the barrier of row r, whose result is value, has completed.
-fn freed(r: Barrier, value: u32, w: u8, row: Warp) -> Warp
-    requires { ⌜ value ≡ resultOf r ⌝ }
-    ensures { λ t. ⌜ t ≡ cond (has (r .waiting) w) (releasedWarp r row) row ⌝ }
+// A step refused with line n changes nothing.
+fn refuse(n: u8) -> Moved
+    ensures { λ r. ⌜ r ≡ refusing n ⌝ }
+{
+    Moved {
+        verdict: Verdict::Refused(n),
+        change: no_change(),
+    }
+}
+
+// A step that completes nothing: a warp has another status, and a barrier another row.
+fn go_on(warp: usize, status: Status, barrier: usize, row: Barrier) -> Moved
+    ensures { λ r. ⌜ r ≡ goingOn warp status barrier row ⌝ }
+{
+    let freed = block::rows::idle_row();
+    Moved {
+        verdict: Verdict::Accepted {
+            value: 0,
+            done: false,
+            released: 0,
+        },
+        change: Change {
+            warp,
+            status,
+            barrier,
+            row,
+            freed,
+        },
+    }
+}
+
+// A step that completes a barrier, whose row is r: a warp has another status, the barrier is idle, and who waited there is released.
+fn complete(warp: usize, status: Status, barrier: usize, r: Barrier) -> Moved
+    ensures { λ m. ⌜ m ≡ completing warp status barrier r ⌝ }
+{
+    let value = block::rows::result_of(r);
+    let row = block::rows::idle_row();
+    Moved {
+        verdict: Verdict::Accepted {
+            value: value as u64,
+            done: true,
+            released: r.waiting,
+        },
+        change: Change {
+            warp,
+            status,
+            barrier,
+            row,
+            freed: r,
+        },
+    }
+}
+
+// The row of warp w after a barrier of row r has completed and this is its result.
+pub fn freed(r: Barrier, value: u32, w: u8, row: Warp) -> Warp
+    ensures { λ t. ⌜ t ≡ freedWarp r value w row ⌝ }
 {
     if !sets::has(r.waiting, w) {
         return row;
@@ -119,86 +184,71 @@ fn release(rows: [Warp; MOST_WARPS as usize], r: Barrier, value: u32) -> [Warp; 
     after
 }
 
-// Barrier k completes with row r.
-fn complete(b: Block, k: u8, r: Barrier) -> Turn
-    requires { ⌜ k < barrierCount ⌝ }
-    ensures { λ t. ⌜ t ≡ completed b k r ⌝ }
+// The block with another row of barrier k; there is none past the last.
+fn with_barrier(mut b: Block, k: usize, row: Barrier) -> Block
+    ensures { λ r. ⌜ r ≡ withBarrier b k row ⌝ }
 {
-    let value = block::rows::result_of(r);
-    let before = b.rows;
-    let after = release(before, r, value);
-    let mut barriers = b.barriers;
-    barriers[k as usize] = block::rows::idle_row();
-    Turn {
-        verdict: Verdict::Accepted {
-            value: value as u64,
-            done: true,
-            released: r.waiting,
-        },
-        block: Block {
-            warps: b.warps,
-            rows: after,
-            barriers,
-        },
+    if k < BARRIER_COUNT as usize {
+        b.barriers[k] = row;
     }
+    b
 }
 
-// Sync, arrive and red: warp w arrives at barrier k. Lines 4 and 5 are read off the warp's row here, and the block is changed in place, since a function that is given the block costs a copy of it.
-pub fn arrival(mut b: Block, w: u8, k: u8, c: Call) -> Turn
-    ensures { λ t. ⌜ t ≡ arrivalOf b w k c ⌝ }
+// The block with another status of warp w; there is none past the last.
+fn with_status(mut b: Block, w: usize, status: Status) -> Block
+    ensures { λ r. ⌜ r ≡ record { warps = b .warps; rows = withStatus (b .rows) w status; barriers = b .barriers } ⌝ }
 {
-    if b.warps <= w {
-        return refuse(b, 4);
-    }
-    if w < MOST_WARPS {
-        let row = b.rows[w as usize];
-        if !block::is_ready(row) {
-            return refuse(b, 5);
-        }
-    }
-    if BARRIER_COUNT <= k {
-        return refuse(b, 6);
-    }
-    let before = b.barriers[k as usize];
-    let m = call_refusal(b.warps, before, w, c);
-    if m != 0 {
-        return refuse(b, m);
-    }
-    let r = block::rows::arrived_row(before, w, c);
-    let rows = b.rows;
-    if block::rows::completes(live(b.warps, rows), r) {
-        return complete(b, k, r);
-    }
-    b.barriers[k as usize] = r;
-    if c.waits & (w < MOST_WARPS) {
-        let row = b.rows[w as usize];
-        b.rows[w as usize] = Warp {
-            status: Status::Waiting(k),
-            result: row.result,
-        };
-    }
-    Turn {
-        verdict: Verdict::Accepted {
-            value: 0,
-            done: false,
-            released: 0,
-        },
-        block: b,
-    }
-}
-
-// The block with warp w exited.
-fn without(mut b: Block, w: u8) -> Block
-    ensures { λ r. ⌜ r ≡ withoutOf b w ⌝ }
-{
-    if w < MOST_WARPS {
-        let row = b.rows[w as usize];
-        b.rows[w as usize] = Warp {
-            status: Status::Exited,
+    if w < MOST_WARPS as usize {
+        let row = b.rows[w];
+        b.rows[w] = Warp {
+            status,
             result: row.result,
         };
     }
     b
+}
+
+// The block with a change made.
+pub fn changed(b: Block, c: Change) -> Block
+    ensures { λ r. ⌜ r ≡ changedOf b c ⌝ }
+{
+    let row = c.row;
+    let status = c.status;
+    let freed = c.freed;
+    let put = with_status(with_barrier(b, c.barrier, row), c.warp, status);
+    let before = put.rows;
+    let rows = release(before, freed, block::rows::result_of(freed));
+    let barriers = put.barriers;
+    Block {
+        warps: put.warps,
+        rows,
+        barriers,
+    }
+}
+
+// Sync, arrive and red: what the arrival of warp w at barrier k changes in any block of so many warps, of which those of alive have not exited, where these are the rows of the warp and the barrier.
+pub fn arrival(warps: u8, alive: u32, warp: Warp, barrier: Barrier, w: u8, k: u8, c: Call) -> Moved
+    ensures { λ m. ⌜ Arrives warps alive warp barrier w k c m ⌝ }
+{
+    let n = warp_refusal(warps, warp, w);
+    if n != 0 {
+        return refuse(n);
+    }
+    if BARRIER_COUNT <= k {
+        return refuse(6);
+    }
+    let m = call_refusal(warps, barrier, w, c);
+    if m != 0 {
+        return refuse(m);
+    }
+    let r = block::rows::arrived_row(barrier, w, c);
+    if block::rows::completes(alive, r) {
+        return complete(MOST_WARPS as usize, Status::Ready, k as usize, r);
+    }
+    if c.waits {
+        return go_on(w as usize, Status::Waiting(k), k as usize, r);
+    }
+    go_on(MOST_WARPS as usize, Status::Ready, k as usize, r)
 }
 
 // The barrier that completes without the warp that exited, and 16 if none does.
@@ -219,26 +269,34 @@ fn opened(b: Block) -> u8
     k
 }
 
-// Warp w exits.
-pub fn exit(b: Block, w: u8) -> Turn
-    ensures { λ t. ⌜ t ≡ exitOf b w ⌝ }
+// The row of warp w, and past the last row a fresh one.
+fn warp_row(b: Block, w: u8) -> Warp
+    ensures { λ r. ⌜ r ≡ warpAt b w ⌝ }
 {
-    let n = warp_refusal(b, w);
-    if n != 0 {
-        return refuse(b, n);
+    if MOST_WARPS <= w {
+        return block::rows::fresh_warp();
     }
-    let e = without(b, w);
+    b.rows[w as usize]
+}
+
+// Warp w exits.
+pub fn exit(b: Block, w: u8) -> Moved
+    ensures { λ m. ⌜ made b m ≡ exitOf b w ⌝ }
+{
+    let n = warp_refusal(b.warps, warp_row(b, w), w);
+    if n != 0 {
+        return refuse(n);
+    }
+    let e = with_status(b, w as usize, Status::Exited);
     let k = opened(e);
     if k < BARRIER_COUNT {
         let r = e.barriers[k as usize];
-        return complete(e, k, r);
+        return complete(w as usize, Status::Exited, k as usize, r);
     }
-    Turn {
-        verdict: Verdict::Accepted {
-            value: 0,
-            done: false,
-            released: 0,
-        },
-        block: e,
-    }
+    go_on(
+        w as usize,
+        Status::Exited,
+        BARRIER_COUNT as usize,
+        block::rows::idle_row(),
+    )
 }

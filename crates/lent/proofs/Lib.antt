@@ -1,4 +1,3 @@
-pub mod Lend
 pub mod Spelt
 pub mod Entries
 pub mod Laws

@@ -11,6 +11,7 @@ use Rattle.steps.specs.declared.Step.{Step}
 use Rattle.object.specs.declared.Object.{Object}
 use Rattle.object.specs.Tokens.{slots}
 use Rattle.block.specs.declared.Block.{Block}
+use Rattle.block.specs.declared.Verdict.{Verdict}
 use Rattle.block.specs.declared.Verdict.the-variants.{Refused, Accepted}
 use Rattle.block.specs.declared.Turn.{Turn}
 use Rattle.block.specs.Tables.{mostWarps, freshBlock}
@@ -37,6 +38,10 @@ pub record Stepped (x : State) (s : Step) (r : Turn) (l : List Object) (y : Tall
   pub block : r .block ≡ next x s .tables .block
   pub objects : l ≡ next x s .tables .objects
   pub tally : y ≡ next x s .tally
+
+-- the same where the block is lent too: what it answers, and block, list and tally as they lie afterwards
+abbrev pub SteppedIn : State → Step → Verdict → Block → List Object → Tally → Type 0
+SteppedIn x s v b l y = Stepped x s (record { verdict = v; block = b }) l y
 
 -- ---- fresh tables
 

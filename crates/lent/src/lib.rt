@@ -22,7 +22,7 @@ pub fn sound(b: Block, objects: &[Object]) -> bool
 }
 
 // The row that a step names.
-fn slot(s: Step) -> usize
+pub fn slot(s: Step) -> usize
     ensures { λ r. ⌜ r ≡ slotOf (s .op) ⌝ }
 {
     let op = s.op;

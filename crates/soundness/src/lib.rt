@@ -6,11 +6,21 @@ use block::MOST_WARPS;
 use block::Status;
 use block::Warp;
 ghost use mathlib.Core.Path.{_≡_};
-ghost use mathlib.Core.Bool.{_&&_, Bool·beq};
+ghost use mathlib.Core.Bool.{false, _&&_, Bool·beq};
 ghost use lib.Dec.{eqb};
 ghost use Rattle.sets.specs.Sets.{has};
 ghost use Rattle.block.specs.Tables.{isReady, waitsPlaced, soundBlock};
 ghost use Rattle.soundness.specs.Waiters.{allSound, allAlike};
+ghost use Rattle.soundness.specs.Survey.{Surveyed};
+
+// What a step sees of a block: whether its tables are sound and, where they are, how many warps it has, which of them have not exited, and the rows of the warp and of the barrier that the step names.
+pub struct Survey {
+    pub sound: bool,
+    pub warps: u8,
+    pub live: u32,
+    pub warp: Warp,
+    pub barrier: Barrier,
+}
 
 // Whether the warp, if it waits, waits at a barrier that there is.
 fn waits_placed(row: Warp) -> bool
@@ -67,19 +77,34 @@ fn rows_agree(
     ok
 }
 
-// Whether the block's tables are sound: the rows past the number of warps, then the warps, who are gathered where they wait, and last the barriers.
-pub fn sound(b: Block) -> bool
-    ensures { λ r. ⌜ r ≡ soundBlock b ⌝ }
+// Of a block that is not sound nothing more is seen.
+fn unsound() -> Survey
+    ensures { λ r. ⌜ r .sound ≡ false ⌝ }
+{
+    let warp = block::rows::fresh_warp();
+    let barrier = block::rows::idle_row();
+    Survey {
+        sound: false,
+        warps: 0,
+        live: 0,
+        warp,
+        barrier,
+    }
+}
+
+// What a step of warp own sees of the block, at barrier named: the rows past the number of warps, then the warps, who are gathered where they wait, and last the barriers. The two rows are read here, since a function that is given the block costs a copy of it.
+pub fn survey_of(b: Block, own: u8, named: u8) -> Survey
+    ensures { λ r. ⌜ Surveyed b own named r ⌝ }
 {
     let n = b.warps;
     if !((1 <= n) & (n <= MOST_WARPS)) {
-        return false;
+        return unsound();
     }
     let mut spare = n;
     while spare < MOST_WARPS {
         let row = b.rows[spare as usize];
         if !is_fresh(row) {
-            return false;
+            return unsound();
         }
         spare += 1;
     }
@@ -89,7 +114,7 @@ pub fn sound(b: Block) -> bool
     while w < n {
         let row = b.rows[w as usize];
         if !waits_placed(row) {
-            return false;
+            return unsound();
         }
         alive += (block::is_live(n, w, row) as u32) << (w as u32);
         let s = row.status;
@@ -102,6 +127,30 @@ pub fn sound(b: Block) -> bool
         }
         w += 1;
     }
+    let warp = if own < MOST_WARPS {
+        b.rows[own as usize]
+    } else {
+        block::rows::fresh_warp()
+    };
+    let barrier = if named < BARRIER_COUNT {
+        b.barriers[named as usize]
+    } else {
+        block::rows::idle_row()
+    };
     let barriers = b.barriers;
-    rows_agree(n, barriers, alive, here)
+    Survey {
+        sound: rows_agree(n, barriers, alive, here),
+        warps: n,
+        live: alive,
+        warp,
+        barrier,
+    }
+}
+
+// Whether the block's tables are sound.
+pub fn sound(b: Block) -> bool
+    ensures { λ r. ⌜ r ≡ soundBlock b ⌝ }
+{
+    let s = survey_of(b, MOST_WARPS, BARRIER_COUNT);
+    s.sound
 }

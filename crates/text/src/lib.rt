@@ -42,7 +42,7 @@ fn lay_line(out: &mut [u8], l: Laying, v: Verdict) -> Laying
     }
 }
 
-// Lays the lines of the steps, turn by turn; list and tally are lent to each step where they lie.
+// Lays the lines of the steps, turn by turn; block, list and tally are lent to each step where they lie.
 fn lay_turns(
     trace: &[u8],
     out: &mut [u8],
@@ -59,9 +59,9 @@ fn lay_turns(
         if !l.going {
             break;
         }
-        let t = lent::step(block, &mut objects, &mut tally, l.step);
-        l = lay_line(&mut *out, l, t.verdict);
-        block = t.block;
+        let v = lent_all::step(&mut block, &mut objects, &mut tally, l.step);
+        let laid = lay_line(&mut *out, l, v);
+        l = laid;
     }
     l
 }

@@ -1,8 +1,10 @@
-// The whole step by value: on the block and the one object row that the step names.
+// The whole step: decided on the block and the one object row that the step names, and taken by value.
+use barriers::Change;
+use barriers::Moved;
+use block::BARRIER_COUNT;
 use block::Block;
 use block::Call;
 use block::Threads;
-use block::Turn;
 use block::Verdict;
 use object::Act;
 use object::Answer;
@@ -14,11 +16,19 @@ use steps::Op;
 use steps::Step;
 use tables::Taken;
 ghost use mathlib.Core.Path.{_≡_};
-ghost use mathlib.Core.Bool.{true, false, _&&_};
+ghost use mathlib.Core.Bool.{false, _&&_};
 ghost use Rattle.block.specs.Tables.{soundBlock};
 ghost use Rattle.tables.specs.Refusals.{callOf, actOf};
-ghost use Rattle.tables.specs.Parts.{leaves, blockTaken, answered, ifReady, objectTaken, pendingTaken};
+ghost use Rattle.tables.specs.Parts.{objectTaken, pendingTaken};
 ghost use Rattle.tables.specs.Effect.{taken};
+ghost use Rattle.whole_step.specs.Decides.{leftOf, refusing, inBlock, answering, IfReady, barrierOf};
+
+// What a step decides: its verdict, what it changes in the block, and the row of the object that it names.
+pub struct Decided {
+    pub verdict: Verdict,
+    pub change: Change,
+    pub object: Object,
+}
 
 // A named-barrier step as the arrival that it is.
 fn call_of(b: BarrierStep) -> Call
@@ -81,107 +91,130 @@ fn act_of(o: ObjectStep) -> Act
     }
 }
 
-// A refusal, which leaves the block and the row.
-fn refuse(b: Block, row: Object, n: u8) -> Taken
-    ensures { λ r. ⌜ r ≡ leaves b row n ⌝ }
+// A refusal, which changes neither the block nor the row.
+fn refuse(row: Object, n: u8) -> Decided
+    ensures { λ r. ⌜ r ≡ refusing row n ⌝ }
 {
-    Taken {
+    let change = barriers::no_change();
+    Decided {
         verdict: Verdict::Refused(n),
-        block: b,
+        change,
         object: row,
     }
 }
 
 // A step of the block's, which leaves the row.
-fn in_block(t: Turn, row: Object) -> Taken
-    ensures { λ r. ⌜ r ≡ blockTaken row t ⌝ }
+fn in_block(m: Moved, row: Object) -> Decided
+    ensures { λ r. ⌜ r ≡ inBlock m row ⌝ }
 {
-    let verdict = t.verdict;
-    let block = t.block;
-    Taken {
+    let verdict = m.verdict;
+    let change = m.change;
+    Decided {
         verdict,
-        block,
+        change,
         object: row,
     }
 }
 
-// What an object answered, with the block as it was.
-fn answer(b: Block, row: Object, a: Answer) -> Taken
-    ensures { λ r. ⌜ r ≡ answered b row a ⌝ }
+// What an object answered, which leaves the block.
+fn answer(row: Object, a: Answer) -> Decided
+    ensures { λ r. ⌜ r ≡ answering row a ⌝ }
 {
     match a {
-        Answer::Refused(n) => refuse(b, row, n),
-        Answer::Accepted { row, value, done } => Taken {
+        Answer::Refused(n) => refuse(row, n),
+        Answer::Accepted { row, value, done } => Decided {
             verdict: Verdict::Accepted {
                 value,
                 done,
                 released: 0,
             },
-            block: b,
+            change: barriers::no_change(),
             object: row,
         },
     }
 }
 
-// An object step of warp w at address a.
-fn on_object(b: Block, row: Object, w: u8, a: u16, o: ObjectStep) -> Taken
-    ensures { λ r. ⌜ r ≡ ifReady b row w (objectTaken b row a o) ⌝ }
+// An object step at address a, of a warp whose line is n, or 0 if it has none.
+fn on_object(n: u8, row: Object, a: u16, o: ObjectStep) -> Decided
+    ensures { λ r. ⌜ IfReady n row r (λ b. objectTaken b row a o) ⌝ }
 {
-    let n = barriers::warp_refusal(b, w);
     if n != 0 {
-        return refuse(b, row, n);
+        return refuse(row, n);
     }
     if (a % 8 != 0) | (504 < a) {
-        return refuse(b, row, 11);
+        return refuse(row, 11);
     }
-    answer(b, row, acts::step(row, (a / 8) as u8, act_of(o)))
+    answer(row, acts::step(row, (a / 8) as u8, act_of(o)))
 }
 
-// A pending count of warp w.
-fn pending(b: Block, row: Object, w: u8, token: u64) -> Taken
-    ensures { λ r. ⌜ r ≡ ifReady b row w (pendingTaken b row token) ⌝ }
+// A pending count, of a warp whose line is n, or 0 if it has none.
+fn pending(n: u8, row: Object, token: u64) -> Decided
+    ensures { λ r. ⌜ IfReady n row r (λ b. pendingTaken b row token) ⌝ }
 {
-    let n = barriers::warp_refusal(b, w);
     if n != 0 {
-        return refuse(b, row, n);
+        return refuse(row, n);
     }
     match object::pending_count(token) {
-        Count::NoToken(n) => refuse(b, row, n),
-        Count::Pending(count) => Taken {
+        Count::NoToken(n) => refuse(row, n),
+        Count::Pending(count) => Decided {
             verdict: Verdict::Accepted {
                 value: count,
                 done: false,
                 released: 0,
             },
-            block: b,
+            change: barriers::no_change(),
             object: row,
         },
     }
 }
 
-// A step on sound tables: lines 4 to 20, and what it does.
-fn act(b: Block, row: Object, step: Step) -> Taken
-    ensures { λ r. ⌜ r ≡ taken (record { sound = true; block = b; object = row }) step ⌝ }
+// The barrier that a step names; 16, which there is not, where it names none.
+fn barrier_of(op: Op) -> u8
+    ensures { λ r. ⌜ r ≡ barrierOf op ⌝ }
 {
-    let w = step.warp;
-    let op = step.op;
     match op {
-        Op::Exit => in_block(barriers::exit(b, w), row),
-        Op::Barrier(k, s) => in_block(barriers::arrival(b, w, k, call_of(s)), row),
-        Op::Object(a, o) => on_object(b, row, w, a, o),
-        Op::PendingCount(t) => pending(b, row, w, t),
+        Op::Exit => BARRIER_COUNT,
+        Op::Barrier(k, _) => k,
+        Op::Object(_, _) => BARRIER_COUNT,
+        Op::PendingCount(_) => BARRIER_COUNT,
     }
 }
 
-// The whole step, on a block, whether all object rows are fine, and the row of the object that it names.
+// The whole step, on a block, whether all object rows are fine, and the row of the object that it names: its verdict, the row, and what it changes in the block.
+pub fn decide(b: Block, fine: bool, row: Object, step: Step) -> Decided
+    ensures { λ r. ⌜ leftOf b r ≡ taken (record { sound = soundBlock b && fine; block = b; object = row }) step ⌝ }
+{
+    let w = step.warp;
+    let op = step.op;
+    let whole = soundness::survey_of(b, w, barrier_of(op));
+    if !(whole.sound & fine) {
+        return refuse(row, 3);
+    }
+    let warp = whole.warp;
+    let barrier = whole.barrier;
+    match op {
+        Op::Exit => in_block(barriers::exit(b, w), row),
+        Op::Barrier(k, s) => in_block(
+            barriers::arrival(whole.warps, whole.live, warp, barrier, w, k, call_of(s)),
+            row,
+        ),
+        Op::Object(a, o) => on_object(barriers::warp_refusal(whole.warps, warp, w), row, a, o),
+        Op::PendingCount(t) => pending(barriers::warp_refusal(whole.warps, warp, w), row, t),
+    }
+}
+
+// The whole step by value: what it leaves of the block and the row.
 pub fn take(b: Block, fine: bool, row: Object, step: Step) -> Taken
     ensures { λ r. ⌜ r ≡ taken (record { sound = soundBlock b && fine; block = b; object = row }) step ⌝ }
 {
-    if !fine {
-        return refuse(b, row, 3);
+    let d = decide(b, fine, row, step);
+    let verdict = d.verdict;
+    let change = d.change;
+    let block = barriers::changed(b, change);
+    let object = d.object;
+    Taken {
+        verdict,
+        block,
+        object,
     }
-    if !soundness::sound(b) {
-        return refuse(b, row, 3);
-    }
-    act(b, row, step)
 }

@@ -15,7 +15,7 @@ form-number-requires c κs = search needs
 returns-2 : tie.Need-returns-2
 returns-2 c =
     let h = c .before .before .before in
-    rw (← h .has .ensures, not-false (h .has .result) (c .before .before .if1 .left), ← c .before .form-number .ensures, lt-ltb _ _ (c .if2 .taken), h .before .pre)
+    rw (← h .has .ensures, not-false (h .has .result) (c .before .before .if1 .left), ← c .before .form-number .ensures, lt-ltb _ _ (c .if2 .taken))
 
 returns-3 : tie.Need-returns-3
 returns-3 c =

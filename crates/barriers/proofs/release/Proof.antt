@@ -3,6 +3,7 @@ use mathlib.Core.Bool.{cond}
 use Prim.Native.Nat.{_≤_, _-_}
 use native.Mathlib.Nat.{le-antisymm}
 use native.Mathlib.Omega.{arith}
+use borrow.Author.Needs.{needs}
 use Rattle.folds.specs.Folds.{firsts}
 use Rattle.folds.proofs.Folds.{firsts-more}
 use Rattle.sets.specs.Sets.{has}
@@ -32,7 +33,7 @@ array-copy-out-row : tie.Need-array-copy-out-row Inv-loop μ-loop
 array-copy-out-row c = omega arith
 
 freed-requires : tie.Need-freed-requires Inv-loop μ-loop
-freed-requires c κs = c .before .before .before .pre
+freed-requires c κs = search needs
 
 cast-after : tie.Need-cast-after Inv-loop μ-loop
 cast-after c = omega arith
@@ -54,7 +55,7 @@ loop-again c =
     let l = c .before .before .before in
     let a = l .before .args in (
       omega arith,
-      rw (c .freed .ensures, l .loop .inv .1)
+      rw (c .freed .ensures, l .before .pre, l .loop .inv .1)
           (firsts-more (λ i x. cond (has (a .r .waiting) i) (releasedWarp (a .r) x) x) (a .t1) (l .loop .w) freshWarp
           (omega (arith, l .before .good .0 .1 .0 .1))),
     )

@@ -61,7 +61,7 @@ use Rattle.rows.proofs.fresh_rows.Symbol.{name as #rows·fresh-rows}
 use Rattle.rows.proofs.fresh_rows.Met as fresh-rows-thm
 use Rattle.lent.specs.Entries.{freshRefusal, freshTurn, Freshened}
 use Rattle.lent.proofs.Entries.{all-there}
-use Rattle.lent.proofs.Lend.{Back, rows-lent, rows-lent-back, calls-lending}
+use Rattle.rows.proofs.Lend.{Back, rows-lent, rows-lent-back, calls-lending}
 use Rattle.lent.proofs.fresh_refusal as fresh-refusal
 use Rattle.lent.proofs.fresh_refusal.Symbol as fresh-refusal-def
 use Rattle.lent.proofs.fresh_refusal.Symbol.{name as #lent·fresh-refusal}

@@ -51,7 +51,7 @@ use Rattle.rows.proofs.rows_sound as rows-sound
 use Rattle.rows.proofs.rows_sound.Symbol as rows-sound-def
 use Rattle.rows.proofs.rows_sound.Symbol.{name as #rows·rows-sound}
 use Rattle.rows.proofs.rows_sound.Met as rows-sound-thm
-use Rattle.lent.proofs.Lend.{rows-shared, rows-shared-back, calls-lending}
+use Rattle.rows.proofs.Lend.{rows-shared, rows-shared-back, calls-lending}
 use Rattle.lent.proofs.sound.Key.{name as #lent·sound}
 use Rattle.lent.proofs.sound as sound
 use Rattle.lent.proofs.sound.Statement as stated

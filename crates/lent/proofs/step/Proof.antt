@@ -89,7 +89,7 @@ use Rattle.rows.proofs.count.Symbol as count-def
 use Rattle.rows.proofs.count.Symbol.{name as #rows·count}
 use Rattle.rows.proofs.count.Met as count-thm
 use Rattle.lent.specs.Entries.{tablesOf as tables-of, stateOf, turnOf, Stepped}
-use Rattle.lent.proofs.Lend.{Back, rows-shared, rows-shared-back, rows-lent, rows-lent-back, record-lent, record-lent-back, calls-lending}
+use Rattle.rows.proofs.Lend.{Back, rows-shared, rows-shared-back, rows-lent, rows-lent-back, record-lent, record-lent-back, calls-lending}
 use Rattle.lent.proofs.slot as slot
 use Rattle.lent.proofs.slot.Symbol as slot-def
 use Rattle.lent.proofs.slot.Symbol.{name as #lent·slot}

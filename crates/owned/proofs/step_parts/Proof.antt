@@ -64,7 +64,7 @@ use Rattle.lent.specs.Entries.{stateOf, Stepped}
 use Rattle.owned.specs.Owner.{bundled, ownedStep}
 use Rattle.owned.proofs.OwnedTurn as G
 use Rattle.owned.proofs.OwnedTurn.Laws as G′
-use Rattle.lent.proofs.Lend.{rows-lent, rows-lent-back, record-lent, record-lent-back}
+use Rattle.rows.proofs.Lend.{rows-lent, rows-lent-back, record-lent, record-lent-back}
 use Rattle.lent.proofs.Spelt.{R, vals-R, tells-R, spelt-R, spelt-T, spelt-N}
 use Rattle.lent.proofs.step as step
 use Rattle.lent.proofs.step.Symbol as step-def

@@ -1,4 +1,4 @@
--- `text::lay_turns` meets its contract: a walk of its MIR, by hand. The trace is looked into and the buffer opened once, before the loop. A turn lends a share of the trace to `look`, the list and the tally, which lie in two locals, to `lent::step`, and the buffer to `lay_line`.
+-- `text::lay_turns` meets its contract: a walk of its MIR, by hand. The trace is looked into and the buffer opened once, before the loop. A turn lends a share of the trace to `look`, the block, the list and the tally, which lie in three locals, to `lent_all::step`, and the buffer to `lay_line`.
 -- The invariant: what is left to lay, laid, gives what all of it gives. Assumes nothing.
 use mathlib.Core.Path.{_≡_, refl, sym, _∙_, ap, subst}
 use mathlib.Core.Bool.{true, false, not}
@@ -61,25 +61,23 @@ use Rattle.object.specs.declared.Object.{Object}
 use Rattle.object.proofs.Object as O
 use Rattle.object.proofs.Object.Laws as O′
 use Rattle.block.specs.declared.Block.{Block}
-use Rattle.block.specs.declared.Turn.{Turn}
+use Rattle.block.specs.declared.Verdict.{Verdict}
 use Rattle.block.proofs.Block as B
 use Rattle.block.proofs.Block.Laws as B′
 use Rattle.block.proofs.Verdict as E
 use Rattle.block.proofs.Verdict.Laws as E′
-use Rattle.block.proofs.Turn as N
-use Rattle.block.proofs.Turn.Laws as N′
 use Rattle.fields.specs.Num.{laid}
 use Rattle.tables.specs.declared.Tally.{Tally}
 use Rattle.tables.proofs.Tally as T
 use Rattle.tables.proofs.Tally.Laws as T′
 use Rattle.rows.proofs.Walk.{is-false, forks, gone1, concluded, over}
-use Rattle.lent.specs.Entries.{stateOf, Stepped}
-use Rattle.lent.proofs.Lend.{Back, rows-shared, rows-shared-back, rows-lent, rows-lent-back, record-lent, record-lent-back, calls-lending}
-use Rattle.lent.proofs.Spelt.{R, vals-R, tells-R, spelt-R, spelt-T, spelt-N}
-use Rattle.lent.proofs.step as step
-use Rattle.lent.proofs.step.Symbol as step-def
-use Rattle.lent.proofs.step.Symbol.{name as #lent·step}
-use Rattle.lent.proofs.step.Met as step-thm
+use Rattle.lent.specs.Entries.{stateOf, SteppedIn}
+use Rattle.rows.proofs.Lend.{Back, rows-shared, rows-shared-back, rows-lent, rows-lent-back, record-lent, record-lent-back, calls-lending}
+use Rattle.lent.proofs.Spelt.{R, vals-R, tells-R, spelt-R, spelt-B, spelt-T, spelt-E}
+use Rattle.lent_all.proofs.step as step
+use Rattle.lent_all.proofs.step.Symbol as step-def
+use Rattle.lent_all.proofs.step.Symbol.{name as #lent-all·step}
+use Rattle.lent_all.proofs.step.Met as step-thm
 use Rattle.lines.specs.Lines.{lineOf}
 use Rattle.runs.specs.Runs.{numberIn}
 use Rattle.looking.specs.declared.Laying.{Laying}
@@ -111,8 +109,8 @@ val-T = LL.val T.the-type T′.the-laws
 abbrev val-L : Laying → Val
 val-L = LL.val L.the-type L′.the-laws
 
-abbrev val-N : Turn → Val
-val-N = LL.val N.the-type N′.the-laws
+abbrev val-E : Verdict → Val
+val-E = LE.val E.the-type E′.the-laws
 
 -- where the parts that the walk reads lie: a walk that finds them by itself takes much longer
 going-at : fieldOf L′.mir 0 ≡ there (tyBool, 0)
@@ -120,12 +118,6 @@ going-at = refl
 
 step-at : fieldOf L′.mir 5 ≡ there (S′.mir, 32)
 step-at = refl
-
-verdict-at : fieldOf N′.mir 0 ≡ there (E′.mir, 0)
-verdict-at = refl
-
-block-at : fieldOf N′.mir 1 ≡ there (B′.mir, 24)
-block-at = refl
 
 abbrev stayed : Stays (lay-turns.ended .signature .params) (lay-turns.ended .kept)
 stayed = (stay-none-slice (0 ∷ []) tt (plain (λ _. u8)) yes, (stay-slice (1 ∷ []) tt (plain (λ _. u8)), (stay-none (λ _. B.the-row) yes, (stay-none (λ _. R) yes, (stay-none (λ _. T.the-row) yes, (stay-none (λ _. L.the-row) yes, tt))))))
@@ -143,7 +135,7 @@ module _ {M : Type 1} (𝓤 : URA M) (H : Heap 𝓤) (A : Atoms 𝓤) (at-mem : 
 
 record Known {M : Type 1} (𝓤 : URA M) (H : Heap 𝓤) (A : Atoms 𝓤) (at-mem : Memory → SProp 𝓤) (run : Routine → Fun 𝓤) (C : Calls 𝓤 H) : Type 2 where
   look : Triple 𝓤 (C #looking·look) (LookOf 𝓤 H A at-mem run)
-  step : Triple 𝓤 (C #lent·step) (StepOf 𝓤 H A at-mem run)
+  step : Triple 𝓤 (C #lent-all·step) (StepOf 𝓤 H A at-mem run)
   line : Triple 𝓤 (C #text·lay-line) (LineOf 𝓤 H A at-mem run)
 
 -- what the locals hold between two turns
@@ -204,6 +196,9 @@ module _ {M : Type 1} (𝓤 : URA M) (H : Heap 𝓤) (A : Atoms 𝓤) (W : Given
   abbrev bytes-out : Ty
   bytes-out = sliceTy (tyRef (named 1) mut (pointee (u8 .written)))
 
+  abbrev to-block : Ty
+  to-block = tyRef erased mut (pointee (B.the-row .written))
+
   abbrev to-array : Ty
   to-array = tyRef erased mut (tyArray (pointee (O.the-row .written)) 64)
 
@@ -230,103 +225,109 @@ module _ {M : Type 1} (𝓤 : URA M) (H : Heap 𝓤) (A : Atoms 𝓤) (W : Given
     abbrev fm : FmC 𝓤 H (W .laws) (𝓣 .C)
     fm = fmOf 𝓤 H (W .laws) 𝓣
 
-    module _ (q′ : Share) (l₀ l₁ l₂ l₃ l₄ l₅ l₆ l₇ l₈ l₉ l₁₀ l₁₁ l₁₂ l₁₃ l₁₄ l₁₅ : ℕ) where
+    module _ (q′ : Share) (l₀ l₁ l₂ l₃ l₄ l₅ l₆ l₇ l₈ l₉ l₁₀ l₁₁ l₁₂ l₁₃ l₁₄ l₁₅ l₁₆ l₁₇ l₁₈ : ℕ) where
       abbrev En : Env 𝓤 H
-      En = (L′.mir, l₀) ∷ (bytes-in, l₁) ∷ (bytes-out, l₂) ∷ (B′.mir, l₃) ∷ (array, l₄) ∷ (T′.mir, l₅) ∷ (L′.mir, l₆) ∷ (array, l₇) ∷ (T′.mir, l₈) ∷ (N′.mir, l₉) ∷ (tyBool, l₁₀) ∷ (to-array, l₁₁) ∷ (to-rows, l₁₂) ∷ (to-tally, l₁₃) ∷ (to-byte, l₁₄) ∷ (to-bytes, l₁₅) ∷ []
+      En = (L′.mir, l₀) ∷ (bytes-in, l₁) ∷ (bytes-out, l₂) ∷ (B′.mir, l₃) ∷ (array, l₄) ∷ (T′.mir, l₅) ∷ (L′.mir, l₆) ∷ (B′.mir, l₇) ∷ (array, l₈) ∷ (T′.mir, l₉) ∷ (E′.mir, l₁₀) ∷ (L′.mir, l₁₁) ∷ (tyBool, l₁₂) ∷ (to-block, l₁₃) ∷ (to-array, l₁₄) ∷ (to-rows, l₁₅) ∷ (to-tally, l₁₆) ∷ (to-byte, l₁₇) ∷ (to-bytes, l₁₈) ∷ []
 
       -- what no turn touches
       abbrev Frame : List (Item 𝓤)
-      Frame = ‵ (froom L′.mir l₀ 0) ∷ ‵ (fat fullShare bytes-in l₁ 0 (sliceVal (b, o) (length s))) ∷ ‵ (fat fullShare bytes-out l₂ 0 (sliceVal (b′, o′) (length out))) ∷ ‵ (fat fullShare array l₄ 0 (only (vals-R ys))) ∷ ‵ (fat fullShare T′.mir l₅ 0 (val-T h))
+      Frame = ‵ (froom L′.mir l₀ 0) ∷ ‵ (fat fullShare bytes-in l₁ 0 (sliceVal (b, o) (length s))) ∷ ‵ (fat fullShare bytes-out l₂ 0 (sliceVal (b′, o′) (length out))) ∷ ‵ (fat fullShare B′.mir l₃ 0 (val-B d)) ∷ ‵ (fat fullShare array l₄ 0 (only (vals-R ys))) ∷ ‵ (fat fullShare T′.mir l₅ 0 (val-T h))
           ∷ ‵ (fobor κ q (arr-parts (shares u8) (length s) .part q′ s b o)) ∷ ‵ (fshr-bor κ (λ p. arr-parts (shares u8) (length s) .part p s b o)) ∷ ‵ (fres γ (codedHoleys u8 .code (heres u8 s))) ∷ ‵ (at-slice u8 (x .0) (at .0))
           ∷ ‵ (fobor κ′ q″ (Held u8 (length out) b′ o′ γ′)) ∷ ‵ (fobs γ′ (codedHoleys u8 .code (heres u8 out))) ∷ ‵ (fauth γ′ (codedHoleys u8 .code (heres u8 out)))
-          ∷ ‵ (fdies L′.mir l₀) ∷ ‵ (fdies bytes-in l₁) ∷ ‵ (fdies bytes-out l₂) ∷ ‵ (fdies B′.mir l₃) ∷ ‵ (fdies array l₄) ∷ ‵ (fdies T′.mir l₅) ∷ ‵ (fdies L′.mir l₆) ∷ ‵ (fdies array l₇) ∷ ‵ (fdies T′.mir l₈) ∷ ‵ (fdies N′.mir l₉) ∷ ‵ (fdies tyBool l₁₀)
-          ∷ ‵ (fdies to-array l₁₁) ∷ ‵ (fdies to-rows l₁₂) ∷ ‵ (fdies to-tally l₁₃) ∷ ‵ (fdies to-byte l₁₄) ∷ ‵ (fdies to-bytes l₁₅) ∷ []
+          ∷ ‵ (fdies L′.mir l₀) ∷ ‵ (fdies bytes-in l₁) ∷ ‵ (fdies bytes-out l₂) ∷ ‵ (fdies B′.mir l₃) ∷ ‵ (fdies array l₄) ∷ ‵ (fdies T′.mir l₅) ∷ ‵ (fdies L′.mir l₆) ∷ ‵ (fdies B′.mir l₇) ∷ ‵ (fdies array l₈) ∷ ‵ (fdies T′.mir l₉) ∷ ‵ (fdies E′.mir l₁₀) ∷ ‵ (fdies L′.mir l₁₁) ∷ ‵ (fdies tyBool l₁₂) ∷ ‵ (fdies to-block l₁₃) ∷ ‵ (fdies to-array l₁₄) ∷ ‵ (fdies to-rows l₁₅) ∷ ‵ (fdies to-tally l₁₆) ∷ ‵ (fdies to-byte l₁₇) ∷ ‵ (fdies to-bytes l₁₈) ∷ []
 
       -- the invariant
       abbrev I : St s out → List (Item 𝓤)
-      I t = ‵ (row u8 q′ s b o) ∷ ‵ (row u8 fullShare (t .out) b′ o′) ∷ ‵ (fat fullShare B′.mir l₃ 0 (val-B (t .block))) ∷ ‵ (fat fullShare L′.mir l₆ 0 (val-L (t .l))) ∷ ‵ (fat fullShare array l₇ 0 (only (vals-R (t .objects)))) ∷ ‵ (fat fullShare T′.mir l₈ 0 (val-T (t .tally)))
-          ∷ ‵ (froom N′.mir l₉ 0) ∷ ‵ (froom tyBool l₁₀ 0) ∷ ‵ (froom to-array l₁₁ 0) ∷ ‵ (froom to-rows l₁₂ 0) ∷ ‵ (froom to-tally l₁₃ 0) ∷ ‵ (froom to-byte l₁₄ 0) ∷ ‵ (froom to-bytes l₁₅ 0) ∷ Frame
+      I t = ‵ (row u8 q′ s b o) ∷ ‵ (row u8 fullShare (t .out) b′ o′) ∷ ‵ (fat fullShare B′.mir l₇ 0 (val-B (t .block))) ∷ ‵ (fat fullShare L′.mir l₆ 0 (val-L (t .l))) ∷ ‵ (fat fullShare array l₈ 0 (only (vals-R (t .objects)))) ∷ ‵ (fat fullShare T′.mir l₉ 0 (val-T (t .tally)))
+          ∷ ‵ (froom E′.mir l₁₀ 0) ∷ ‵ (froom L′.mir l₁₁ 0) ∷ ‵ (froom tyBool l₁₂ 0) ∷ ‵ (froom to-block l₁₃ 0) ∷ ‵ (froom to-array l₁₄ 0) ∷ ‵ (froom to-rows l₁₅ 0) ∷ ‵ (froom to-tally l₁₆ 0) ∷ ‵ (froom to-byte l₁₇ 0) ∷ ‵ (froom to-bytes l₁₈ 0) ∷ Frame
 
       -- when the loop is left, the rest of the body runs
       abbrev Leaves : Out → SProp 𝓤
-      Leaves = afterBlock 𝓤 H (afterSeq 𝓤 H (Wp 𝓤 H (𝓣 .C) (𝓣 .Λ) En steps.t-4 (atReturn 𝓤 H En Post)) (atReturn 𝓤 H En Post))
+      Leaves = afterBlock 𝓤 H (afterSeq 𝓤 H (Wp 𝓤 H (𝓣 .C) (𝓣 .Λ) En steps.t-5 (atReturn 𝓤 H En Post)) (atReturn 𝓤 H En Post))
 
       turn : (t : St s out) → Sq W (I t) (runs (𝓣 .C) (𝓣 .Λ) En steps.turn-1 (anyQ (afterTurn 𝓤 H (Below 𝓤 H A _≺_ I t) Leaves)))
       unfolding afterTurn
       turn t =
-          -- [the trace; the buffer; _3; _6; _7; _8; _9 to _15; _0; _1; _2; _4; _5; the trace's open borrow, fractured borrow, res and fact; the buffer's open borrow, obs and auth; and that each local dies]
+          -- [the trace; the buffer; _7; _6; _8; _9; _10 to _18; _0 to _5; the trace's open borrow, fractured borrow, res and fact; the buffer's open borrow, obs and auth; and that each local dies]
           calls-lending ! fm (shrSliceOf (0 ∷ []) tt (plain (λ _. u8))) (plain (λ _. L.the-row) ∷ []) L.the-row yes (yes, tt) (looks.clauses 𝓤 H A at-mem run) (known .look) (λ _. (LL.makes L.the-type L′.the-plain 𝓤 H A, tt)) val-L (LL.tells L.the-type L′.the-laws)
           (row u8 q′ s b o) (rows-shared 𝓤 H A W u8 b o q′ s room-s) (λ _. (t .l, tt)) (λ _. (LL.vals L.the-type L′.the-laws (t .l), tt)) (λ _. (t .is-l, tt)) (λ _ _. tt) (λ _ _. id⊢ 𝓤 _) l′ (λ _ _ r _. r ≡ l′) (λ _ _ r ws. id⊢ 𝓤 _) (λ α δ r w e. (e, rows-shared-back 𝓤 H A W u8 b o q′ s room-s yes α δ w))
-          (λ _ _. and-then ! (load ! (from ! (stop !)) (look ! 15 refl)) (and-then ! (load ! (from ! (stop !)) (look ! 4 refl)) (no-more !))) (λ is-l′. land ! (from ! (stop !)) (store ! 3 refl (typed-L l′ is-l′)) $
-          assigns ! (un ! (load ! (from ! (fld ! going-at (stop !))) (look-in ! 3 (sub ! 0 going-at (whole !)))) tt) (from ! (stop !)) (init ! 7 refl (tt, tt)) $
-          forks ! (load ! (from ! (stop !)) (look ! 7 refl))
+          (λ _ _. and-then ! (load ! (from ! (stop !)) (look ! 17 refl)) (and-then ! (load ! (from ! (stop !)) (look ! 4 refl)) (no-more !))) (λ is-l′. land ! (from ! (stop !)) (store ! 3 refl (typed-L l′ is-l′)) $
+          assigns ! (un ! (load ! (from ! (fld ! going-at (stop !))) (look-in ! 3 (sub ! 0 going-at (whole !)))) tt) (from ! (stop !)) (init ! 8 refl (tt, tt)) $
+          forks ! (load ! (from ! (stop !)) (look ! 8 refl))
           -- no step was found
-          (λ none. jumps ! $ exec ! (𝓣 .C) (𝓣 .Λ) En steps.t-4 (atRet En Post) $
-          assigns ! (of-opd ! (load ! (from ! (stop !)) (look ! 3 refl))) (from ! (stop !)) (init ! 13 refl (typed-L l′ is-l′)) $
-          move ! (0 ∷ 18 ∷ []) $ shuts-slice ! tt u8 q′ s b o $ move ! (1 ∷ 21 ∷ 22 ∷ 23 ∷ []) $ closes-slice ! tt u8 out (t .out) (t .inv .same) b′ o′ $
-          returns ! (look ! 15 refl) $ move ! (15 ∷ 23 ∷ 16 ∷ 24 ∷ 17 ∷ 25 ∷ 4 ∷ 26 ∷ 18 ∷ 27 ∷ 19 ∷ 28 ∷ 5 ∷ 29 ∷ 6 ∷ 30 ∷ 7 ∷ 31 ∷ 8 ∷ 32 ∷ 9 ∷ 33 ∷ 10 ∷ 34 ∷ 11 ∷ 35 ∷ 12 ∷ 36 ∷ 13 ∷ 37 ∷ 14 ∷ 38 ∷ []) $
-          gone1 ! $ gone1 ! $ gone1 ! $ gone1 ! $ gone1 ! $ gone1 ! $ gone1 ! $ gone1 ! $ gone1 ! $ free1 ! $ gone1 ! $ free1 ! $ free1 ! $ free1 ! $ free1 ! $ free1 ! $ free0 ! $
+          (λ none. jumps ! $ exec ! (𝓣 .C) (𝓣 .Λ) En steps.t-5 (atRet En Post) $
+          assigns ! (of-opd ! (load ! (from ! (stop !)) (look ! 3 refl))) (from ! (stop !)) (init ! 15 refl (typed-L l′ is-l′)) $
+          move ! (0 ∷ 21 ∷ []) $ shuts-slice ! tt u8 q′ s b o $ move ! (1 ∷ 24 ∷ 25 ∷ 26 ∷ []) $ closes-slice ! tt u8 out (t .out) (t .inv .same) b′ o′ $
+          returns ! (look ! 17 refl) $ move ! (17 ∷ 26 ∷ 18 ∷ 27 ∷ 19 ∷ 28 ∷ 20 ∷ 29 ∷ 21 ∷ 30 ∷ 22 ∷ 31 ∷ 5 ∷ 32 ∷ 4 ∷ 33 ∷ 6 ∷ 34 ∷ 7 ∷ 35 ∷ 8 ∷ 36 ∷ 9 ∷ 37 ∷ 10 ∷ 38 ∷ 11 ∷ 39 ∷ 12 ∷ 40 ∷ 13 ∷ 41 ∷ 14 ∷ 42 ∷ 15 ∷ 43 ∷ 16 ∷ 44 ∷ []) $
+          gone1 ! $ gone1 ! $ gone1 ! $ gone1 ! $ gone1 ! $ gone1 ! $ gone1 ! $ gone1 ! $ gone1 ! $ gone1 ! $ free1 ! $ free1 ! $ gone1 ! $ free1 ! $ free1 ! $ free1 ! $ free1 ! $ free1 ! $ free1 ! $ free0 ! $
           move ! (5 ∷ 4 ∷ []) $ fjoin ! $ move ! (5 ∷ 0 ∷ []) $ fjoin ! $ by ! (exits l′ (t .out) (t .inv .same) (left-last s (t .block) (t .objects) (t .tally) (t .l) l′ refl out (t .out) (t .inv) (not-true-is none)) is-l′))
           -- a step was found, and is taken
-          (λ found. assigns ! (addr ! (from ! (stop !))) (from ! (stop !)) (init ! 8 refl (tt, tt)) $
-          assigns ! (agg ! (and-then ! (load ! (from ! (stop !)) (look ! 8 refl)) (and-then ! (lit ! tt) (no-more !)))) (from ! (stop !)) (init ! 9 refl (tt, (tt, (record { fits = lit< tt }, tt)))) $
-          rewrite ! 9 (λ (m : ℕ). ‵ (fat fullShare to-rows l₁₂ 0 (sliceVal (l₇, 0) m))) (sym len) refl $
+          (λ found. assigns ! (addr ! (from ! (stop !))) (from ! (stop !)) (init ! 9 refl (tt, tt)) $
           assigns ! (addr ! (from ! (stop !))) (from ! (stop !)) (init ! 10 refl (tt, tt)) $
-          -- the array is its rows, and the tally lies in memory
-          move ! (4 ∷ 5 ∷ []) $ owned ! R (Is R) (array-makes 𝓤 H A W O.the-row (LL.makes O.the-type O′.the-plain 𝓤 H A) 64) (t .objects) _ (t .is-objects) $ move ! (1 ∷ 0 ∷ []) $ use2 W (‵ (partAt R fullShare (t .objects) l₇ 0)) (part-in 𝓤 H A W R refl fullShare (t .objects) l₇ 0 (only (vals-R (t .objects)))) $
-          use1 W (‵ (arr-parts (shares O.the-row) 64 .part fullShare (t .objects) l₇ 0)) (array-apart 𝓤 H A W O.the-row fullShare tt 64 (t .objects) l₇ 0) $ fsplit ! $ drop ! $
-          move ! (1 ∷ []) $ owned ! T.the-row (Is T.the-row) (LL.makes T.the-type T′.the-plain 𝓤 H A) (t .tally) _ (t .is-tally) $ move ! (1 ∷ 0 ∷ []) $ use2 W (‵ (partAt T.the-row fullShare (t .tally) l₈ 0)) (part-in 𝓤 H A W T.the-row refl fullShare (t .tally) l₈ 0 (val-T (t .tally))) $
-          -- both are lent
-          lft-new ! tt (λ ν. lft-new ! tt (λ ν′. move ! (3 ∷ []) $
-          use1 W (later (some (λ (δ : GName). ‵ (MutSlice (named 0) (ν ∷ []) O.the-row .own (record { ptr = (l₇, 0); name = δ; now = t .objects }) (sliceVal (l₇, 0) (length (t .objects)) ∷ [])) ⊛ ‵ (flent (ν ∷ []) (Held O.the-row (length (t .objects)) l₇ 0 δ))))) (rows-lent 𝓤 H A W O.the-row l₇ 0 (t .objects) room-R .lend (ν ∷ [])) $ await ! tt $ pick ! (λ δ. split ! $ move ! (4 ∷ []) $
-          use1 W (later (some (λ (δ′ : GName). ‵ (MutRef (named 1) (ν′ ∷ []) T.the-row .own (record { ptr = (l₈, 0); name = δ′; now = t .tally }) (vptr l₈ 0 ∷ [])) ⊛ ‵ (flent (ν′ ∷ []) (Body (mem T.the-row) l₈ 0 δ′))))) (record-lent 𝓤 H A W T.the-row l₈ 0 (t .tally) .lend (ν′ ∷ [])) $ await ! tt $ pick ! (λ δ′. split ! $
-          -- [the tally's reference; what is kept of it; the rows'; what is kept of them; the two tokens]
-          nothing ! $ owned ! S.the-row (Is S.the-row) (LL.makes S.the-type S′.the-plain 𝓤 H A) (l′ .step) _ (is-step is-l′) $ fjoin ! $ move ! (1 ∷ 0 ∷ []) $ fjoin ! $ move ! (2 ∷ 0 ∷ []) $ fjoin ! $ owned ! B.the-row (Is B.the-row) (LL.makes B.the-type B′.the-plain 𝓤 H A) (t .block) _ (t .is-block) $ fjoin ! $
-          nothing ! $ move ! (4 ∷ 0 ∷ []) $ join ! $ move ! (4 ∷ 0 ∷ []) $ join ! $ join ! $ nothing ! $ move ! (1 ∷ 0 ∷ []) $ join ! $ use1 W (raw (StepOf 𝓤 H A at-mem run .pre (to-step ν δ ν′ δ′))) (id⊢ 𝓤 _) $
-          calls-at ! fm (StepOf 𝓤 H A at-mem run) (known .step) (to-step ν δ ν′ δ′) (and-then ! (load ! (from ! (stop !)) (look ! 5 refl)) (and-then ! (load ! (from ! (stop !)) (look ! 10 refl)) (and-then ! (load ! (from ! (stop !)) (look ! 11 refl)) (and-then ! (load ! (from ! (fld ! step-at (stop !))) (look-in ! 6 (sub ! 5 step-at (whole !)))) (no-more !))))) (λ v.
-          use1 W (later (some (λ (r : Turn). ((‵ (flft (ν ∷ []) fullShare) ⊛ ‵ (flft (ν′ ∷ []) fullShare) ⊛ ‵ ftrue) ⊛ ‵ (N.the-row .own r (v ∷ []))) ⊛ some (λ (ws : Lasts step.ended (ν ∷ [], (ν′ ∷ [], tt)) (to-step ν δ ν′ δ′ .0 .3)).
-          ‵ (lasts step.ended (ν ∷ [], (ν′ ∷ [], tt)) (to-step ν δ ν′ δ′ .0 .3) ws) ⊛ raw (fact 𝓤 (Stepped (stateOf (t .block) (t .objects) (t .tally)) (l′ .step) r (ws .1 .0) (ws .1 .1 .0))))))) (id⊢ 𝓤 _) $ await ! tt $ pick ! (λ r. split ! $ move ! (1 ∷ []) $ pick ! (λ ws. split ! $ move ! (1 ∷ []) $ heard ! (Stepped (stateOf (t .block) (t .objects) (t .tally)) (l′ .step) r (ws .1 .0) (ws .1 .1 .0)) (λ e.
-          -- both lifetimes end, and the tally and the rows come back
-          fsplit ! $ drop ! $ fsplit ! $ move ! (1 ∷ []) $ fsplit ! $ move ! (1 ∷ []) $ drop ! $ move ! (2 ∷ []) $ split ! $ move ! (1 ∷ []) $ peeks ! N.the-row (Is N.the-row) (shows 𝓤 H A N.the-row) r (v ∷ []) (λ is. drop ! $
-          split ! $ lft-end ! tt $ move ! (1 ∷ []) $ split ! $ lft-end ! tt $ move ! (0 ∷ 5 ∷ 3 ∷ []) $ use3 W (later (‵ (partAt T.the-row fullShare (ws .1 .1 .0) l₈ 0))) (record-lent-back 𝓤 H A W T.the-row l₈ 0 (t .tally) (ν′ ∷ []) δ′ (ws .1 .1 .0)) $ await ! tt $
-          move ! (3 ∷ []) $ fsplit ! $ move ! (1 ∷ []) $ feqL ! (λ lw. feqI ! ℕ (length (ws .1 .0)) (length (t .objects)) lw $ move ! (1 ∷ 0 ∷ []) $ fjoin ! $ move ! (3 ∷ 4 ∷ 0 ∷ []) $ use3 W (later (‵ (row O.the-row fullShare (ws .1 .0) l₇ 0))) (rows-lent-back 𝓤 H A W O.the-row l₇ 0 (t .objects) room-R (ν ∷ []) δ (ws .1 .0)) $ await ! tt $
-          feqI ! ℕ (length (ws .1 .0)) 64 (lw ∙ len) $ fjoin ! $ use1 W (‵ (partAt R fullShare (ws .1 .0) l₇ 0)) (array-whole 𝓤 H A W O.the-row fullShare 64 (ws .1 .0) l₇ 0) $
-          use1 W (some (λ (u : Val). ‵ (fat fullShare array l₇ 0 u) ⊛ ‵ (R .own (ws .1 .0) (u ∷ [])))) (part-out 𝓤 H A W R refl fullShare (ws .1 .0) l₇ 0) $ pick ! (λ u. split ! $ move ! (1 ∷ []) $ peeks ! R (Is R) (shows 𝓤 H A R) (ws .1 .0) (u ∷ []) (λ is-u. drop ! $
-          rewrite ! 0 (λ (w : Val). ‵ (fat fullShare array l₇ 0 w)) (ap only (tells-R (ws .1 .0) (u ∷ []) is-u)) refl $ move ! (1 ∷ []) $
-          use1 W (some (λ (u′ : Val). ‵ (fat fullShare T′.mir l₈ 0 u′) ⊛ ‵ (T.the-row .own (ws .1 .1 .0) (u′ ∷ [])))) (part-out 𝓤 H A W T.the-row refl fullShare (ws .1 .1 .0) l₈ 0) $ pick ! (λ u′. split ! $ move ! (1 ∷ []) $ peeks ! T.the-row (Is T.the-row) (shows 𝓤 H A T.the-row) (ws .1 .1 .0) (u′ ∷ []) (λ is-u′. drop ! $
-          rewrite ! 0 (λ (w : Val). ‵ (fat fullShare T′.mir l₈ 0 w)) (ap only (LL.tells T.the-type T′.the-laws (ws .1 .1 .0) (u′ ∷ []) is-u′)) refl $
-          land ! (from ! (stop !)) (init ! 7 refl (LL.lawful N.the-type N′.the-laws 𝓤 H A W .typed r _ is .0)) $ rewrite ! 7 (λ (w : Val). ‵ (fat fullShare N′.mir l₉ 0 w)) (ap only (LL.tells N.the-type N′.the-laws r (v ∷ []) is)) refl $
-          -- [_8; _7; true; the trace; the buffer; _3; _6; _9; and so on to _15; _0; _1; _2; …]
-          assigns ! (addr ! (from ! (fld ! refl (hop ! (look-in ! 16 (sub ! 0 refl (whole !))) (stop !))))) (from ! (stop !)) (init ! 12 refl (tt, tt)) $
-          assigns ! (agg ! (and-then ! (load ! (from ! (stop !)) (look ! 12 refl)) (and-then ! (load ! (from ! (fld ! refl (stop !))) (look-in ! 16 (sub ! 1 refl (whole !)))) (no-more !)))) (from ! (stop !)) (init ! 13 refl (tt, (tt, (record { fits = room .0 }, tt)))) $
-          rewrite ! 13 (λ (m : ℕ). ‵ (fat fullShare to-bytes l₁₅ 0 (sliceVal (b′, o′) m))) (sym (t .inv .same)) refl $ move ! (4 ∷ []) $
+          assigns ! (agg ! (and-then ! (load ! (from ! (stop !)) (look ! 10 refl)) (and-then ! (lit ! tt) (no-more !)))) (from ! (stop !)) (init ! 11 refl (tt, (tt, (record { fits = lit< tt }, tt)))) $
+          rewrite ! 11 (λ (m : ℕ). ‵ (fat fullShare to-rows l₁₅ 0 (sliceVal (l₈, 0) m))) (sym len) refl $
+          assigns ! (addr ! (from ! (stop !))) (from ! (stop !)) (init ! 12 refl (tt, tt)) $
+          -- the array is its rows, and the tally and the block lie in memory
+          move ! (4 ∷ 5 ∷ 2 ∷ []) $ owned ! R (Is R) (array-makes 𝓤 H A W O.the-row (LL.makes O.the-type O′.the-plain 𝓤 H A) 64) (t .objects) _ (t .is-objects) $ move ! (1 ∷ 0 ∷ []) $ use2 W (‵ (partAt R fullShare (t .objects) l₈ 0)) (part-in 𝓤 H A W R refl fullShare (t .objects) l₈ 0 (only (vals-R (t .objects)))) $
+          use1 W (‵ (arr-parts (shares O.the-row) 64 .part fullShare (t .objects) l₈ 0)) (array-apart 𝓤 H A W O.the-row fullShare tt 64 (t .objects) l₈ 0) $ fsplit ! $ drop ! $
+          move ! (1 ∷ []) $ owned ! T.the-row (Is T.the-row) (LL.makes T.the-type T′.the-plain 𝓤 H A) (t .tally) _ (t .is-tally) $ move ! (1 ∷ 0 ∷ []) $ use2 W (‵ (partAt T.the-row fullShare (t .tally) l₉ 0)) (part-in 𝓤 H A W T.the-row refl fullShare (t .tally) l₉ 0 (val-T (t .tally))) $
+          move ! (2 ∷ []) $ owned ! B.the-row (Is B.the-row) (LL.makes B.the-type B′.the-plain 𝓤 H A) (t .block) _ (t .is-block) $ move ! (1 ∷ 0 ∷ []) $ use2 W (‵ (partAt B.the-row fullShare (t .block) l₇ 0)) (part-in 𝓤 H A W B.the-row refl fullShare (t .block) l₇ 0 (val-B (t .block))) $
+          -- all three are lent
+          lft-new ! tt (λ ν. lft-new ! tt (λ ν′. lft-new ! tt (λ ν″. move ! (5 ∷ []) $
+          use1 W (later (some (λ (δ′ : GName). ‵ (MutSlice (named 1) (ν′ ∷ []) O.the-row .own (record { ptr = (l₈, 0); name = δ′; now = t .objects }) (sliceVal (l₈, 0) (length (t .objects)) ∷ [])) ⊛ ‵ (flent (ν′ ∷ []) (Held O.the-row (length (t .objects)) l₈ 0 δ′))))) (rows-lent 𝓤 H A W O.the-row l₈ 0 (t .objects) room-R .lend (ν′ ∷ [])) $ await ! tt $ pick ! (λ δ′. split ! $ move ! (6 ∷ []) $
+          use1 W (later (some (λ (δ″ : GName). ‵ (MutRef (named 2) (ν″ ∷ []) T.the-row .own (record { ptr = (l₉, 0); name = δ″; now = t .tally }) (vptr l₉ 0 ∷ [])) ⊛ ‵ (flent (ν″ ∷ []) (Body (mem T.the-row) l₉ 0 δ″))))) (record-lent 𝓤 H A W T.the-row l₉ 0 (t .tally) .lend (ν″ ∷ [])) $ await ! tt $ pick ! (λ δ″. split ! $ move ! (7 ∷ []) $
+          use1 W (later (some (λ (δ : GName). ‵ (MutRef (named 0) (ν ∷ []) B.the-row .own (record { ptr = (l₇, 0); name = δ; now = t .block }) (vptr l₇ 0 ∷ [])) ⊛ ‵ (flent (ν ∷ []) (Body (mem B.the-row) l₇ 0 δ))))) (record-lent 𝓤 H A W B.the-row l₇ 0 (t .block) .lend (ν ∷ [])) $ await ! tt $ pick ! (λ δ. split ! $
+          -- [the block's reference; what is kept of it; the tally's; what is kept of it; the rows'; what is kept of them; the three tokens]
+          nothing ! $ owned ! S.the-row (Is S.the-row) (LL.makes S.the-type S′.the-plain 𝓤 H A) (l′ .step) _ (is-step is-l′) $ fjoin ! $ move ! (3 ∷ 0 ∷ []) $ fjoin ! $ move ! (4 ∷ 0 ∷ []) $ fjoin ! $ move ! (1 ∷ 0 ∷ []) $ fjoin ! $
+          nothing ! $ move ! (5 ∷ 0 ∷ []) $ join ! $ move ! (5 ∷ 0 ∷ []) $ join ! $ move ! (5 ∷ 0 ∷ []) $ join ! $ join ! $ nothing ! $ move ! (1 ∷ 0 ∷ []) $ join ! $ use1 W (raw (StepOf 𝓤 H A at-mem run .pre (to-step ν δ ν′ δ′ ν″ δ″))) (id⊢ 𝓤 _) $
+          calls-at ! fm (StepOf 𝓤 H A at-mem run) (known .step) (to-step ν δ ν′ δ′ ν″ δ″) (and-then ! (load ! (from ! (stop !)) (look ! 10 refl)) (and-then ! (load ! (from ! (stop !)) (look ! 12 refl)) (and-then ! (load ! (from ! (stop !)) (look ! 13 refl)) (and-then ! (load ! (from ! (fld ! step-at (stop !))) (look-in ! 6 (sub ! 5 step-at (whole !)))) (no-more !))))) (λ v.
+          use1 W (later (some (λ (r : Verdict). ((‵ (flft (ν ∷ []) fullShare) ⊛ ‵ (flft (ν′ ∷ []) fullShare) ⊛ ‵ (flft (ν″ ∷ []) fullShare) ⊛ ‵ ftrue) ⊛ ‵ (E.the-row .own r (v ∷ []))) ⊛ some (λ (ws : Lasts step.ended (ν ∷ [], (ν′ ∷ [], (ν″ ∷ [], tt))) (to-step ν δ ν′ δ′ ν″ δ″ .0 .3)).
+          ‵ (lasts step.ended (ν ∷ [], (ν′ ∷ [], (ν″ ∷ [], tt))) (to-step ν δ ν′ δ′ ν″ δ″ .0 .3) ws) ⊛ raw (fact 𝓤 (SteppedIn (stateOf (t .block) (t .objects) (t .tally)) (l′ .step) r (ws .0) (ws .1 .0) (ws .1 .1 .0))))))) (id⊢ 𝓤 _) $ await ! tt $ pick ! (λ r. split ! $ move ! (1 ∷ []) $ pick ! (λ ws. split ! $ move ! (1 ∷ []) $ heard ! (SteppedIn (stateOf (t .block) (t .objects) (t .tally)) (l′ .step) r (ws .0) (ws .1 .0) (ws .1 .1 .0)) (λ e.
+          -- the lifetimes end, and the tally, the block and the rows come back
+          fsplit ! $ move ! (1 ∷ []) $ fsplit ! $ move ! (1 ∷ []) $ fsplit ! $ move ! (1 ∷ []) $ drop ! $ move ! (3 ∷ []) $ split ! $ move ! (1 ∷ []) $ peeks ! E.the-row (Is E.the-row) (shows 𝓤 H A E.the-row) r (v ∷ []) (λ is. drop ! $
+          split ! $ lft-end ! tt $ move ! (1 ∷ []) $ split ! $ lft-end ! tt $ move ! (1 ∷ []) $ split ! $ lft-end ! tt $
+          move ! (0 ∷ 8 ∷ 4 ∷ []) $ use3 W (later (‵ (partAt T.the-row fullShare (ws .1 .1 .0) l₉ 0))) (record-lent-back 𝓤 H A W T.the-row l₉ 0 (t .tally) (ν″ ∷ []) δ″ (ws .1 .1 .0)) $ await ! tt $
+          move ! (3 ∷ 6 ∷ 5 ∷ []) $ use3 W (later (‵ (partAt B.the-row fullShare (ws .0) l₇ 0))) (record-lent-back 𝓤 H A W B.the-row l₇ 0 (t .block) (ν ∷ []) δ (ws .0)) $ await ! tt $
+          move ! (4 ∷ []) $ fsplit ! $ move ! (1 ∷ []) $ feqL ! (λ lw. feqI ! ℕ (length (ws .1 .0)) (length (t .objects)) lw $ move ! (1 ∷ 0 ∷ []) $ fjoin ! $ move ! (4 ∷ 5 ∷ 0 ∷ []) $ use3 W (later (‵ (row O.the-row fullShare (ws .1 .0) l₈ 0))) (rows-lent-back 𝓤 H A W O.the-row l₈ 0 (t .objects) room-R (ν′ ∷ []) δ′ (ws .1 .0)) $ await ! tt $
+          feqI ! ℕ (length (ws .1 .0)) 64 (lw ∙ len) $ fjoin ! $ use1 W (‵ (partAt R fullShare (ws .1 .0) l₈ 0)) (array-whole 𝓤 H A W O.the-row fullShare 64 (ws .1 .0) l₈ 0) $
+          use1 W (some (λ (u : Val). ‵ (fat fullShare array l₈ 0 u) ⊛ ‵ (R .own (ws .1 .0) (u ∷ [])))) (part-out 𝓤 H A W R refl fullShare (ws .1 .0) l₈ 0) $ pick ! (λ u. split ! $ move ! (1 ∷ []) $ peeks ! R (Is R) (shows 𝓤 H A R) (ws .1 .0) (u ∷ []) (λ is-u. drop ! $
+          rewrite ! 0 (λ (w : Val). ‵ (fat fullShare array l₈ 0 w)) (ap only (tells-R (ws .1 .0) (u ∷ []) is-u)) refl $ move ! (1 ∷ []) $
+          use1 W (some (λ (u′ : Val). ‵ (fat fullShare B′.mir l₇ 0 u′) ⊛ ‵ (B.the-row .own (ws .0) (u′ ∷ [])))) (part-out 𝓤 H A W B.the-row refl fullShare (ws .0) l₇ 0) $ pick ! (λ u′. split ! $ move ! (1 ∷ []) $ peeks ! B.the-row (Is B.the-row) (shows 𝓤 H A B.the-row) (ws .0) (u′ ∷ []) (λ is-u′. drop ! $
+          rewrite ! 0 (λ (w : Val). ‵ (fat fullShare B′.mir l₇ 0 w)) (ap only (LL.tells B.the-type B′.the-laws (ws .0) (u′ ∷ []) is-u′)) refl $ move ! (2 ∷ []) $
+          use1 W (some (λ (u″ : Val). ‵ (fat fullShare T′.mir l₉ 0 u″) ⊛ ‵ (T.the-row .own (ws .1 .1 .0) (u″ ∷ [])))) (part-out 𝓤 H A W T.the-row refl fullShare (ws .1 .1 .0) l₉ 0) $ pick ! (λ u″. split ! $ move ! (1 ∷ []) $ peeks ! T.the-row (Is T.the-row) (shows 𝓤 H A T.the-row) (ws .1 .1 .0) (u″ ∷ []) (λ is-u″. drop ! $
+          rewrite ! 0 (λ (w : Val). ‵ (fat fullShare T′.mir l₉ 0 w)) (ap only (LL.tells T.the-type T′.the-laws (ws .1 .1 .0) (u″ ∷ []) is-u″)) refl $
+          land ! (from ! (stop !)) (init ! 7 refl (LE.lawful E.the-type E′.the-laws 𝓤 H A W tt .typed r _ is .0)) $ rewrite ! 7 (λ (w : Val). ‵ (fat fullShare E′.mir l₁₀ 0 w)) (ap only (LE.tells E.the-type E′.the-laws r (v ∷ []) is)) refl $
+          -- [_9; _7; _8; true; the trace; the buffer; _6; _10; and so on to _18; _0; _1; _2; …]
+          assigns ! (addr ! (from ! (fld ! refl (hop ! (look-in ! 18 (sub ! 0 refl (whole !))) (stop !))))) (from ! (stop !)) (init ! 14 refl (tt, tt)) $
+          assigns ! (agg ! (and-then ! (load ! (from ! (stop !)) (look ! 14 refl)) (and-then ! (load ! (from ! (fld ! refl (stop !))) (look-in ! 18 (sub ! 1 refl (whole !)))) (no-more !)))) (from ! (stop !)) (init ! 15 refl (tt, (tt, (record { fits = room .0 }, tt)))) $
+          rewrite ! 15 (λ (m : ℕ). ‵ (fat fullShare to-bytes l₁₈ 0 (sliceVal (b′, o′) m))) (sym (t .inv .same)) refl $ move ! (5 ∷ []) $
           calls-lending ! fm (mutSliceOf (0 ∷ []) tt (plain (λ _. u8))) (plain (λ _. L.the-row) ∷ plain (λ _. E.the-row) ∷ []) L.the-row yes (yes, (yes, tt)) (lay-line.clauses 𝓤 H A at-mem run) (known .line) (λ _. (LL.makes L.the-type L′.the-plain 𝓤 H A, (LE.makes E.the-type E′.the-plain 𝓤 H A, tt))) val-L (LL.tells L.the-type L′.the-laws)
-          (row u8 fullShare (out′ r) b′ o′) (rows-lent 𝓤 H A W u8 b′ o′ (t .out) room′) (λ _. (l′, (r .verdict, tt))) (λ _. (LL.vals L.the-type L′.the-laws l′, (LE.vals E.the-type E′.the-laws (r .verdict), tt))) (λ _. (is-l′, (is-verdict r (spelt-N r v is), tt))) (λ _ _. tt) (λ _ _. factI 𝓤 _ (emp 𝓤) fits) (lineLaid l′ (r .verdict)) (λ _ _ a w. (a ≡ lineLaid l′ (r .verdict)) × (w ≡ out′ r)) (λ _ _ a ws. id⊢ 𝓤 _)
+          (row u8 fullShare (out′ r) b′ o′) (rows-lent 𝓤 H A W u8 b′ o′ (t .out) room′) (λ _. (l′, (r, tt))) (λ _. (LL.vals L.the-type L′.the-laws l′, (LE.vals E.the-type E′.the-laws r, tt))) (λ _. (is-l′, (spelt-E r v is, tt))) (λ _ _. tt) (λ _ _. factI 𝓤 _ (emp 𝓤) fits) (lineLaid l′ r) (λ _ _ a w. (a ≡ lineLaid l′ r) × (w ≡ out′ r)) (λ _ _ a ws. id⊢ 𝓤 _)
           (λ α δ a w eq. (eq .0, subst (λ (zs : List ℕ). Back 𝓤 H A (mutSliceOf (0 ∷ []) tt (plain (λ _. u8))) (row u8 fullShare (t .out) b′ o′) (rows-lent 𝓤 H A W u8 b′ o′ (t .out) room′) yes α δ w (row u8 fullShare zs b′ o′)) (eq .1) (rows-lent-back 𝓤 H A W u8 b′ o′ (t .out) room′ α δ w)))
-          (λ _ _. and-then ! (load ! (from ! (stop !)) (look ! 14 refl)) (and-then ! (load ! (from ! (stop !)) (look ! 7 refl)) (and-then ! (load ! (from ! (fld ! verdict-at (stop !))) (look-in ! 8 (sub ! 0 verdict-at (whole !)))) (no-more !)))) (λ is-l″. land ! (from ! (stop !)) (store ! 6 refl (typed-L (lineLaid l′ (r .verdict)) is-l″)) $
-          assigns-last ! (of-opd ! (load ! (from ! (fld ! block-at (stop !))) (look-in ! 7 (sub ! 1 block-at (whole !))))) (from ! (stop !)) (store ! 5 refl (typed-B (r .block) (is-block′ r (spelt-N r v is)))) $
-          forget ! 7 refl $ forget ! 8 refl $ forget ! 9 refl $ forget ! 10 refl $ forget ! 11 refl $ forget ! 12 refl $ forget ! 13 refl $
-          keep ! (4 ∷ 0 ∷ 5 ∷ 6 ∷ 2 ∷ 1 ∷ 7 ∷ 8 ∷ 9 ∷ 10 ∷ 11 ∷ 12 ∷ 13 ∷ 14 ∷ 15 ∷ 16 ∷ 17 ∷ 18 ∷ 19 ∷ 20 ∷ 21 ∷ 22 ∷ 23 ∷ 24 ∷ 25 ∷ 26 ∷ 27 ∷ 28 ∷ 29 ∷ 30 ∷ 31 ∷ 32 ∷ 33 ∷ 34 ∷ 35 ∷ 36 ∷ 37 ∷ 38 ∷ 39 ∷ 40 ∷ 41 ∷ []) $
+          (λ _ _. and-then ! (load ! (from ! (stop !)) (look ! 16 refl)) (and-then ! (load ! (from ! (stop !)) (look ! 7 refl)) (and-then ! (load ! (from ! (stop !)) (look ! 8 refl)) (no-more !)))) (λ is-l″. land ! (from ! (stop !)) (init ! 8 refl (typed-L (lineLaid l′ r) is-l″)) $
+          assigns-last ! (of-opd ! (load ! (from ! (stop !)) (look ! 8 refl))) (from ! (stop !)) (store ! 6 refl (typed-L (lineLaid l′ r) is-l″)) $
+          forget ! 7 refl $ forget ! 8 refl $ forget ! 9 refl $ forget ! 10 refl $ forget ! 11 refl $ forget ! 12 refl $ forget ! 13 refl $ forget ! 14 refl $ forget ! 15 refl $
+          keep ! (5 ∷ 0 ∷ 2 ∷ 6 ∷ 3 ∷ 1 ∷ 7 ∷ 8 ∷ 9 ∷ 10 ∷ 11 ∷ 12 ∷ 13 ∷ 14 ∷ 15 ∷ 16 ∷ 17 ∷ 18 ∷ 19 ∷ 20 ∷ 21 ∷ 22 ∷ 23 ∷ 24 ∷ 25 ∷ 26 ∷ 27 ∷ 28 ∷ 29 ∷ 30 ∷ 31 ∷ 32 ∷ 33 ∷ 34 ∷ 35 ∷ 36 ∷ 37 ∷ 38 ∷ 39 ∷ 40 ∷ 41 ∷ 42 ∷ 43 ∷ 44 ∷ 45 ∷ 46 ∷ 47 ∷ []) $
           again ! _≺_ I t
           (record {
-            block = r .block;
+            block = ws .0;
             objects = ws .1 .0;
             tally = ws .1 .1 .0;
-            l = lineLaid l′ (r .verdict);
+            l = lineLaid l′ r;
             out = out′ r;
-            is-block = is-block′ r (spelt-N r v is);
+            is-block = spelt-B (ws .0) u′ is-u′;
             is-objects = spelt-R (ws .1 .0) u is-u;
-            is-tally = spelt-T (ws .1 .1 .0) u′ is-u′;
+            is-tally = spelt-T (ws .1 .1 .0) u″ is-u″;
             is-l = is-l″;
-            inv = left-next s (t .block) (t .objects) (t .tally) (t .l) l′ refl out (t .out) (t .inv) (is-true found) r (ws .1 .0) (ws .1 .1 .0) e;
+            inv = left-next s (t .block) (t .objects) (t .tally) (t .l) l′ refl out (t .out) (t .inv) (is-true found) (record { verdict = r; block = ws .0 }) (ws .1 .0) (ws .1 .1 .0) e;
           })
-          (turn-less s (t .block) (t .objects) (t .tally) (t .l) l′ refl (is-true found) (r .verdict)))))))))))))))))))
+          (turn-less s (t .block) (t .objects) (t .tally) (t .l) l′ refl (is-true found) r))))))))))))))))))))))
         where
           l′ : Laying
           l′ = looked s (t .l)
 
-          out′ : Turn → List ℕ
-          out′ r = laid (t .out) (l′ .at) (lineOf (numberIn (l′ .lines)) (r .verdict))
+          out′ : Verdict → List ℕ
+          out′ r = laid (t .out) (l′ .at) (lineOf (numberIn (l′ .lines)) r)
 
           len : length (t .objects) ≡ 64
           len = t .is-objects .1 .0 .1
@@ -349,47 +350,42 @@ module _ {M : Type 1} (𝓤 : URA M) (H : Heap 𝓤) (A : Atoms 𝓤) (W : Given
           is-step : Is L.the-row l′ (LL.vals L.the-type L′.the-laws l′) → Is S.the-row (l′ .step) (LL.vals S.the-type S′.the-laws (l′ .step))
           is-step is = LL.owed L.the-type L′.the-laws l′ _ is .1 .1 .1 .1 .1 .0
 
-          is-verdict : (r : Turn) → Is N.the-row r (LL.vals N.the-type N′.the-laws r) → Is E.the-row (r .verdict) (LE.vals E.the-type E′.the-laws (r .verdict))
-          is-verdict r is = LL.owed N.the-type N′.the-laws r _ is .0
-
-          is-block′ : (r : Turn) → Is N.the-row r (LL.vals N.the-type N′.the-laws r) → Is B.the-row (r .block) (LL.vals B.the-type B′.the-laws (r .block))
-          is-block′ r is = LL.owed N.the-type N′.the-laws r _ is .1 .0
-
-          -- what `step`'s triple binds outside: the rows at l₇ lent for ν under δ, and the tally at l₈ lent for ν′ under δ′
-          to-step : ℕ → GName → ℕ → GName → StepOf 𝓤 H A at-mem run .Ghost
-          to-step ν δ ν′ δ′ = (
+          -- what the triple of `lent_all::step` binds outside: the block at l₇ lent for ν under δ, the rows at l₈ for ν′ under δ′, and the tally at l₉ for ν″ under δ″
+          to-step : ℕ → GName → ℕ → GName → ℕ → GName → StepOf 𝓤 H A at-mem run .Ghost
+          to-step ν δ ν′ δ′ ν″ δ″ = (
             (
-              (ν ∷ [], (ν′ ∷ [], tt)),
-              (fullShare, (fullShare, tt)),
+              (ν ∷ [], (ν′ ∷ [], (ν″ ∷ [], tt))),
+              (fullShare, (fullShare, (fullShare, tt))),
               tt,
-              (t .block, (record { ptr = (l₇, 0); name = δ; now = t .objects }, (record { ptr = (l₈, 0); name = δ′; now = t .tally }, (l′ .step, tt)))),
-              (LL.vals B.the-type B′.the-laws (t .block), (sliceVal (l₇, 0) (length (t .objects)) ∷ [], (vptr l₈ 0 ∷ [], (LL.vals S.the-type S′.the-laws (l′ .step), tt)))),
+              (record { ptr = (l₇, 0); name = δ; now = t .block }, (record { ptr = (l₈, 0); name = δ′; now = t .objects }, (record { ptr = (l₉, 0); name = δ″; now = t .tally }, (l′ .step, tt)))),
+              (vptr l₇ 0 ∷ [], (sliceVal (l₈, 0) (length (t .objects)) ∷ [], (vptr l₉ 0 ∷ [], (LL.vals S.the-type S′.the-laws (l′ .step), tt)))),
             ),
             tt,
           )
 
     -- the loop, and what follows it
-    around : (q′ : Share) (l₀ l₁ l₂ l₃ l₄ l₅ l₆ l₇ l₈ l₉ l₁₀ l₁₁ l₁₂ l₁₃ l₁₄ l₁₅ : ℕ) (t : St s out) → Sq W (I q′ l₀ l₁ l₂ l₃ l₄ l₅ l₆ l₇ l₈ l₉ l₁₀ l₁₁ l₁₂ l₁₃ l₁₄ l₁₅ t)
-        (runs (𝓣 .C) (𝓣 .Λ) (En q′ l₀ l₁ l₂ l₃ l₄ l₅ l₆ l₇ l₈ l₉ l₁₀ l₁₁ l₁₂ l₁₃ l₁₄ l₁₅) steps.t-3 (atRet (En q′ l₀ l₁ l₂ l₃ l₄ l₅ l₆ l₇ l₈ l₉ l₁₀ l₁₁ l₁₂ l₁₃ l₁₄ l₁₅) Post))
-    around q′ l₀ l₁ l₂ l₃ l₄ l₅ l₆ l₇ l₈ l₉ l₁₀ l₁₁ l₁₂ l₁₃ l₁₄ l₁₅ t =
-        first ! $ blocks ! $ loops ! 𝓣 _≺_ ≺-wf (I q′ l₀ l₁ l₂ l₃ l₄ l₅ l₆ l₇ l₈ l₉ l₁₀ l₁₁ l₁₂ l₁₃ l₁₄ l₁₅) (turn q′ l₀ l₁ l₂ l₃ l₄ l₅ l₆ l₇ l₈ l₉ l₁₀ l₁₁ l₁₂ l₁₃ l₁₄ l₁₅) t
+    around : (q′ : Share) (l₀ l₁ l₂ l₃ l₄ l₅ l₆ l₇ l₈ l₉ l₁₀ l₁₁ l₁₂ l₁₃ l₁₄ l₁₅ l₁₆ l₁₇ l₁₈ : ℕ) (t : St s out) → Sq W (I q′ l₀ l₁ l₂ l₃ l₄ l₅ l₆ l₇ l₈ l₉ l₁₀ l₁₁ l₁₂ l₁₃ l₁₄ l₁₅ l₁₆ l₁₇ l₁₈ t)
+        (runs (𝓣 .C) (𝓣 .Λ) (En q′ l₀ l₁ l₂ l₃ l₄ l₅ l₆ l₇ l₈ l₉ l₁₀ l₁₁ l₁₂ l₁₃ l₁₄ l₁₅ l₁₆ l₁₇ l₁₈) steps.t-4 (atRet (En q′ l₀ l₁ l₂ l₃ l₄ l₅ l₆ l₇ l₈ l₉ l₁₀ l₁₁ l₁₂ l₁₃ l₁₄ l₁₅ l₁₆ l₁₇ l₁₈) Post))
+    around q′ l₀ l₁ l₂ l₃ l₄ l₅ l₆ l₇ l₈ l₉ l₁₀ l₁₁ l₁₂ l₁₃ l₁₄ l₁₅ l₁₆ l₁₇ l₁₈ t =
+        first ! $ blocks ! $ loops ! 𝓣 _≺_ ≺-wf (I q′ l₀ l₁ l₂ l₃ l₄ l₅ l₆ l₇ l₈ l₉ l₁₀ l₁₁ l₁₂ l₁₃ l₁₄ l₁₅ l₁₆ l₁₇ l₁₈) (turn q′ l₀ l₁ l₂ l₃ l₄ l₅ l₆ l₇ l₈ l₉ l₁₀ l₁₁ l₁₂ l₁₃ l₁₄ l₁₅ l₁₆ l₁₇ l₁₈) t
 
     walk : Begun s d ys h l → ent 𝓤 (onEntry 𝓤 H A lay-turns.signature (κ, (κ′, tt)) (q, (q″, tt)) x at) (WpFn 𝓤 H (𝓣 .C) (𝓣 .Λ) code.function (sliceVal (b, o) (length s) ∷ sliceVal (b′, o′) (length out) ∷ val-B d ∷ only (vals-R ys) ∷ val-T h ∷ val-L l ∷ []) Post)
     walk begun =
         qed W ((‵ (flft κ q) ⊛ ‵ (flft κ′ q″) ⊛ ‵ ftrue) ∷ ‵ (owns (ShrSlice (named 0) κ u8 ∷ MutSlice (named 1) κ′ u8 ∷ B.the-row ∷ R ∷ T.the-row ∷ L.the-row ∷ []) x at) ∷ []) ∵
         enter ! (𝓣 .C) (𝓣 .Λ) code.function (sliceVal (b, o) (length s) ∷ sliceVal (b′, o′) (length out) ∷ val-B d ∷ only (vals-R ys) ∷ val-T h ∷ val-L l ∷ []) _ $
-        alloc1 ! (λ l₀. alloc1 ! (λ l₁. alloc1 ! (λ l₂. alloc1 ! (λ l₃. alloc1 ! (λ l₄. alloc1 ! (λ l₅. alloc1 ! (λ l₆. alloc1 ! (λ l₇. alloc1 ! (λ l₈. alloc1 ! (λ l₉. alloc1 ! (λ l₁₀. alloc1 ! (λ l₁₁. alloc1 ! (λ l₁₂. alloc1 ! (λ l₁₃. alloc1 ! (λ l₁₄. alloc1 ! (λ l₁₅. alloc0 ! $ params1 ! $
-        pass1 ! (init ! 28 refl (tt, (tt, (record { fits = room-s .0 }, tt)))) $ pass1 ! (init ! 26 refl (tt, (tt, (record { fits = room .0 }, tt)))) $ pass1 ! (init ! 24 refl (typed-B d is-d)) $ pass1 ! (init ! 22 refl (typed-R ys is-ys)) $ pass1 ! (init ! 20 refl (typed-T h is-h)) $ pass1 ! (init ! 18 refl (typed-L l is-l)) $ pass0 ! $
-        assigns ! (of-opd ! (load ! (from ! (stop !)) (look ! 22 refl))) (from ! (stop !)) (init ! 16 refl (typed-R ys is-ys)) $
-        assigns ! (of-opd ! (load ! (from ! (stop !)) (look ! 20 refl))) (from ! (stop !)) (init ! 14 refl (typed-T h is-h)) $
+        alloc1 ! (λ l₀. alloc1 ! (λ l₁. alloc1 ! (λ l₂. alloc1 ! (λ l₃. alloc1 ! (λ l₄. alloc1 ! (λ l₅. alloc1 ! (λ l₆. alloc1 ! (λ l₇. alloc1 ! (λ l₈. alloc1 ! (λ l₉. alloc1 ! (λ l₁₀. alloc1 ! (λ l₁₁. alloc1 ! (λ l₁₂. alloc1 ! (λ l₁₃. alloc1 ! (λ l₁₄. alloc1 ! (λ l₁₅. alloc1 ! (λ l₁₆. alloc1 ! (λ l₁₇. alloc1 ! (λ l₁₈. alloc0 ! $ params1 ! $
+        pass1 ! (init ! 34 refl (tt, (tt, (record { fits = room-s .0 }, tt)))) $ pass1 ! (init ! 32 refl (tt, (tt, (record { fits = room .0 }, tt)))) $ pass1 ! (init ! 30 refl (typed-B d is-d)) $ pass1 ! (init ! 28 refl (typed-R ys is-ys)) $ pass1 ! (init ! 26 refl (typed-T h is-h)) $ pass1 ! (init ! 24 refl (typed-L l is-l)) $ pass0 ! $
+        assigns ! (of-opd ! (load ! (from ! (stop !)) (look ! 30 refl))) (from ! (stop !)) (init ! 22 refl (typed-B d is-d)) $
+        assigns ! (of-opd ! (load ! (from ! (stop !)) (look ! 28 refl))) (from ! (stop !)) (init ! 20 refl (typed-R ys is-ys)) $
+        assigns ! (of-opd ! (load ! (from ! (stop !)) (look ! 26 refl))) (from ! (stop !)) (init ! 18 refl (typed-T h is-h)) $
         -- the trace is looked into
-        move ! (33 ∷ []) $ fsplit ! $ fsplit ! $ move ! (1 ∷ []) $ fsplit ! $ move ! (36 ∷ []) $ split ! $ move ! (3 ∷ 0 ∷ []) $
+        move ! (39 ∷ []) $ fsplit ! $ fsplit ! $ move ! (1 ∷ []) $ fsplit ! $ move ! (42 ∷ []) $ split ! $ move ! (3 ∷ 0 ∷ []) $
         looks-slice ! tt u8 (Is u8) (shows 𝓤 H A u8) (uint-vals w8) (uint-tells w8) (uint-copy 𝓤 H A W w8) s b o (λ q′.
         -- and the buffer opened
         move ! (6 ∷ []) $ fsplit ! $ fsplit ! $ move ! (1 ∷ []) $ fsplit ! $ move ! (7 ∷ []) $ split ! $ move ! (2 ∷ 3 ∷ 0 ∷ []) $ opens-slice ! tt u8 out b′ o′ $
-        -- [the buffer; its open borrow, obs and auth; true; its fact; the values'; the trace; its open borrow, fractured borrow, res and fact; _15; …; and so on to _0, two places each]
-        keep ! (7 ∷ 0 ∷ 36 ∷ 30 ∷ 28 ∷ 26 ∷ 24 ∷ 22 ∷ 20 ∷ 18 ∷ 16 ∷ 14 ∷ 12 ∷ 42 ∷ 40 ∷ 38 ∷ 34 ∷ 32 ∷ 8 ∷ 9 ∷ 10 ∷ 11 ∷ 1 ∷ 2 ∷ 3 ∷ 43 ∷ 41 ∷ 39 ∷ 37 ∷ 35 ∷ 33 ∷ 31 ∷ 29 ∷ 27 ∷ 25 ∷ 23 ∷ 21 ∷ 19 ∷ 17 ∷ 15 ∷ 13 ∷ []) $
-        around q′ l₀ l₁ l₂ l₃ l₄ l₅ l₆ l₇ l₈ l₉ l₁₀ l₁₁ l₁₂ l₁₃ l₁₄ l₁₅ start)))))))))))))))))
+        -- [the buffer; its open borrow, obs and auth; true; its fact; the values'; the trace; its open borrow, fractured borrow, res and fact; _18; …; and so on to _0, two places each]
+        keep ! (7 ∷ 0 ∷ 34 ∷ 36 ∷ 32 ∷ 30 ∷ 28 ∷ 26 ∷ 24 ∷ 22 ∷ 20 ∷ 18 ∷ 16 ∷ 14 ∷ 12 ∷ 48 ∷ 46 ∷ 44 ∷ 42 ∷ 40 ∷ 38 ∷ 8 ∷ 9 ∷ 10 ∷ 11 ∷ 1 ∷ 2 ∷ 3 ∷ 49 ∷ 47 ∷ 45 ∷ 43 ∷ 41 ∷ 39 ∷ 37 ∷ 35 ∷ 33 ∷ 31 ∷ 29 ∷ 27 ∷ 25 ∷ 23 ∷ 21 ∷ 19 ∷ 17 ∷ 15 ∷ 13 ∷ []) $
+        around q′ l₀ l₁ l₂ l₃ l₄ l₅ l₆ l₇ l₈ l₉ l₁₀ l₁₁ l₁₂ l₁₃ l₁₄ l₁₅ l₁₆ l₁₇ l₁₈ start))))))))))))))))))))
       where
         start : St s out
         start = record { block = d; objects = ys; tally = h; l = l; out = out; is-block = is-d; is-objects = is-ys; is-tally = is-h; is-l = is-l; inv = left-first s out d ys h l begun }
@@ -411,6 +407,6 @@ lay-turns-spec 𝓤 H 𝓜 𝓖 𝓡 =
     (lay-turns.clauses 𝓤 H (𝓖 .A) (𝓜 .mem) (𝓡 .run)) #text·lay-turns code.function (code.unfolded 𝓤 H 𝓜 𝓡)
     (lay-turns-walks 𝓤 H (𝓖 .A) (givenOf 𝓤 H 𝓜 𝓖) (𝓜 .mem) (𝓡 .run) (over 𝓤 H 𝓜 𝓖 𝓡 code.env) (record {
       look = cited 𝓤 H (LookOf 𝓤 H (𝓖 .A) (𝓜 .mem) (𝓡 .run)) 𝓜 𝓡 code.env #looking·look look-def.routine code.calls-looking·look (look-thm.met 𝓤 H 𝓜 𝓖 𝓡);
-      step = cited 𝓤 H (StepOf 𝓤 H (𝓖 .A) (𝓜 .mem) (𝓡 .run)) 𝓜 𝓡 code.env #lent·step step-def.routine code.calls-lent·step (step-thm.met 𝓤 H 𝓜 𝓖 𝓡);
+      step = cited 𝓤 H (StepOf 𝓤 H (𝓖 .A) (𝓜 .mem) (𝓡 .run)) 𝓜 𝓡 code.env #lent-all·step step-def.routine code.calls-lent-all·step (step-thm.met 𝓤 H 𝓜 𝓖 𝓡);
       line = cited 𝓤 H (LineOf 𝓤 H (𝓖 .A) (𝓜 .mem) (𝓡 .run)) 𝓜 𝓡 code.env #text·lay-line lay-line-def.routine code.calls-text·lay-line (lay-line-thm.met 𝓤 H 𝓜 𝓖 𝓡);
     }))

@@ -1,6 +1,5 @@
 -- `whole_step::answer` meets its contract, case by case.
 -- Assumes nothing.
-use mathlib.Core.Path.{refl}
 use borrow.Author.Needs.{needs}
 use Rattle.whole_step.proofs.answer.Statement.{statement}
 use Rattle.whole_step.proofs.answer.Tie as tie
@@ -14,11 +13,16 @@ refuse-requires c κs = search needs
 enum-known-a-2 : tie.Need-enum-known-a-2
 enum-known-a-2 c = search needs
 
+no-change-requires : tie.Need-no-change-requires
+no-change-requires c κs = search needs
+
 returns : tie.Need-returns
 returns c = rw (c .before .before .a .given .1) (c .refuse .ensures)
 
 returns-2 : tie.Need-returns-2
-returns-2 c = rw (c .before .a2 .given .1) refl
+returns-2 c = rw (c .before .before .a2 .given .1, c .no-change .ensures)
 
 pub answer-spec : {M : Type 1} → statement M
-answer-spec = tie.close (tie.spec enum-known-a refuse-requires enum-known-a-2 returns returns-2)
+answer-spec =
+    tie.close
+    (tie.spec enum-known-a refuse-requires enum-known-a-2 no-change-requires returns returns-2)

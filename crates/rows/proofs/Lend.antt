@@ -3,6 +3,7 @@
 --     rows-shared      rows lent as a `&[T]`.        rows-shared-back      they come back as they were
 --     rows-lent        rows lent as a `&mut [T]`.        rows-lent-back      they come back at the last list
 --     record-lent      a record lent as a `&mut T`.        record-lent-back      it comes back at its last value
+--     part-shut        a value's cell with what it owns is the value in memory
 --     calls-lending    the call: the function's first parameter is the reference, the others are by value, and its `ensures` says its result
 -- Positions: in the operands every position is one higher than before the call.
 -- Assumes `Given`.
@@ -20,14 +21,14 @@ use prog.Wp.{Heap, Env, Calls, Loops}
 use ghost.Atoms.{Atoms, sem}
 use sound.WpLaws.{FmC}
 use contract.Monad.{fact}
-use types.Kit.{Given, Item, ‵, raw, some, later, _⊛_, Post, runs, lands, Seq, _$_, _∵_, !, qed, by, move, keep, use0, use1, use2, use3, split, join, fsplit, fjoin, feqI, frame, drop, pick, await, updating, now as at-once, done}
+use types.Kit.{Given, Item, ‵, raw, some, later, _⊛_, Post, runs, lands, Seq, _$_, _∵_, !, qed, by, move, keep, use0, use1, use2, use3, split, join, fsplit, fjoin, fpack, feqI, frame, drop, pick, await, updating, now as at-once, done}
 use types.Run.{Opds}
 use types.Tokens.{lft-new, lft-end, lent-back}
 use types.SemTy.{cells, Arr, Body as Holds}
 use types.Share.{arr-parts}
 use denote.RattleType.{RattleType, owns, Denots, Valss}
 use denote.Laws.{Is, Ises, Are, Tells, Makess, shows, owns-make}
-use denote.Memory.{partAt, mem, shares}
+use denote.Memory.{cellAt, partOf, partAt, mem, shares}
 use denote.Slice.{sliceVal, Room, finally}
 use denote.Lend.{Held, lends-ref, ref-back, lends-slice, slice-back, lends-shr-slice}
 use denote.Index.{row, whole-out, whole-in}
@@ -89,6 +90,13 @@ module _ {M : Type 1} (𝓤 : URA M) (H : Heap 𝓤) (A : Atoms 𝓤) (W : Given
 
   pub record-lent-back : (h : R .Denot) (κ : Lft) (δ : GName) (h′ : R .Denot) → Back 𝓤 H A (mutRefTo (0 ∷ []) tt (plain (λ _. R))) (partAt R fullShare h b o) (record-lent h) yes κ δ h′ (partAt R fullShare h′ b o)
   record-lent-back h κ δ h′ = ref-back 𝓤 H A W R κ δ h′ b o
+
+-- the cell of a value and what the value owns are the value in memory
+pub part-shut : {M : Type 1} (𝓤 : URA M) (H : Heap 𝓤) (A : Atoms 𝓤) (W : Given 𝓤 H A) (R : RattleType) (t : Share) (h : R .Denot) (vs : List Val) (b o : ℕ)
+    → ent 𝓤 (sep 𝓤 (sem 𝓤 H A (cellAt t (R .mir) vs b o)) (sem 𝓤 H A (R .own h vs))) (sem 𝓤 H A (partAt R t h b o))
+unfolding partOf
+part-shut 𝓤 H A W R t h vs b o =
+    qed W (‵ (cellAt t (R .mir) vs b o) ∷ ‵ (R .own h vs) ∷ []) ∵ fjoin ! $ fpack ! (List Val) (λ us. fsep (cellAt t (R .mir) us b o) (R .own h us)) vs $ done !
 
 -- a signature whose first parameter is the reference s, at the one lifetime, and whose others are by value
 abbrev pub Lending : (s : Slot 1) (ps : List (Slot 1)) → RattleType → Kept → Kepts ps → Ended

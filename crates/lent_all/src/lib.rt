@@ -1,0 +1,21 @@
+// The step where the caller lends everything: block, list and tally are changed where they lie.
+use block::Block;
+use block::Verdict;
+use object::Object;
+use steps::Step;
+use tables::Tally;
+ghost use Rattle.lent.specs.Entries.{stateOf, SteppedIn};
+
+// One step: refused, it leaves block and list; either way the tally counts it. The block is copied only for the decision.
+pub fn step(b: &mut Block, objects: &mut [Object], tally: &mut Tally, s: Step) -> Verdict
+    ensures { λ r. ⌜ SteppedIn (stateOf (now (b .entry)) (now (objects .entry)) (now (tally .entry))) s r (now (b .exit)) (now (objects .exit)) (now (tally .exit)) ⌝ }
+{
+    let fine = rows::rows_sound(objects);
+    let at = lent::slot(s);
+    let row = rows::row_at(objects, at);
+    let d = whole_step::decide(*b, fine, row, s);
+    rows::put_row(objects, at, d.object);
+    rows::count(tally, d.verdict);
+    in_place::change(b, d.change);
+    d.verdict
+}

@@ -1,0 +1,371 @@
+use mathlib.Core.Path.{_≡_, refl, sym, subst, _∙_}
+use mathlib.Core.Bool.{Bool, true, false, not, _&&_, false≢true}
+use mathlib.Core.Logic.{⊎-elim}
+use Prim.Native.Nat.{ℕ, _+_, _*_, _%_, _^_, _≤_, _<_, _-_}
+use native.Mathlib.Nat.{le-antisymm}
+use native.Mathlib.Omega.{arith}
+use lib.Dec.{leb, ltb}
+use lib.ListN.{length-map}
+use borrow.Author.Needs.{needs}
+use mir.Val.{boolByte}
+use borrow.Author.Tests.{not-true, not-false, leb-true, le-ltb, ltb-true}
+use Rattle.folds.specs.Folds.{all, every}
+use Rattle.folds.proofs.Folds.{and-right, all-none, all-more, all-fails, every-fails}
+use Rattle.sets.specs.Sets.{setOf}
+use Rattle.sets.proofs.Sets.{setOf-more, setOf-fits, setOf-far}
+use Rattle.block.specs.Tables.{freshWarp, idle, warpAt, barrierAt, isExited, waitsPlaced, warpsCounted, liveOf, soundBlock}
+use Rattle.block.specs.declared.Block.{Block}
+use Rattle.soundness.specs.declared.Survey.{Survey}
+use Rattle.soundness.specs.Survey.{Surveyed}
+use Rattle.block.proofs.Tables.{past}
+use Rattle.soundness.proofs.Warps.{FreshTo, own-row, spare-row, all-warps, fresh-more}
+use Rattle.soundness.proofs.Waiters.{Gathered, gathered-none, gathered-kept, waits-here, gathered-more, all-agreeing}
+use Rattle.soundness.proofs.survey_of.Statement.{statement}
+use Rattle.soundness.proofs.survey_of.Tie as tie
+
+-- warp v is one of the block's and has not exited
+abbrev lives : Block → ℕ → Bool
+lives b v = ltb v (b .warps) && not (isExited (warpAt b v .status))
+
+-- the warps of the block are all that live
+live-all : (b : Block) → b .warps ≤ 32 → setOf (b .warps) (lives b) ≡ liveOf b
+live-all b l =
+    let size : b .warps + (32 - b .warps) ≡ 32 = omega (arith, l) in
+    rw size at (setOf-far (lives b) (b .warps) (32 - b .warps) (λ v a. rw (le-ltb v (b .warps) a)))
+
+-- where the tables are not sound, a survey that says so is right, whatever it says of the warps
+not-sound : (b : Block) (w k : ℕ) (r : Survey) → r .sound ≡ false → false ≡ soundBlock b → Surveyed b w k r
+not-sound b w k r says fails =
+    let never : soundBlock b ≡ true → ⊥ = λ holds. false≢true (fails ∙ holds) in
+    record {
+      sound = says ∙ fails;
+      warps = λ holds. absurd (never holds);
+      live = λ holds. absurd (never holds);
+      warp = λ holds. absurd (never holds);
+      barrier = λ holds. absurd (never holds);
+    }
+
+abbrev Inv-loop : tie.InvT-loop
+Inv-loop own named b n spare₀ spare = (n ≤ spare) × (spare ≤ 32) × FreshTo b spare
+
+abbrev μ-loop : tie.MeasureT-loop
+μ-loop own named b n spare₀ spare = 32 - spare
+
+abbrev Inv-loop2 : tie.InvT-loop2
+Inv-loop2 own named b n spare alive₀ here₀ w₀ alive here w =
+    (w ≤ n)
+    × (all w (λ v. waitsPlaced (warpAt b v .status)) ≡ true)
+    × (alive ≡ setOf w (lives b))
+    × Gathered w here b
+
+abbrev μ-loop2 : tie.MeasureT-loop2
+μ-loop2 own named b n spare alive₀ here₀ w₀ alive here w = n - w
+
+unsound-requires : tie.Need-unsound-requires Inv-loop μ-loop Inv-loop2 μ-loop2
+unsound-requires c κs = search needs
+
+returns : tie.Need-returns Inv-loop μ-loop Inv-loop2 μ-loop2
+unfolding soundBlock
+returns c = not-sound _ _ _ _ (c .unsound .ensures) (every-fails _ 0 (not-true _ (c .before .if1 .taken)))
+
+-- there are at most 32 warps
+few : (c : tie.Else1 Inv-loop μ-loop Inv-loop2 μ-loop2) → c .before .args .t1 .warps ≤ 32
+few c =
+    let b = c .before .args .t1 in
+    leb-true (b .warps) 32 (and-right (leb 1 (b .warps)) (leb (b .warps) 32) (not-false (warpsCounted b) (c .if1 .left)))
+
+loop-holds : tie.Need-loop-holds Inv-loop μ-loop Inv-loop2 μ-loop2
+loop-holds c = (omega arith, few c, λ v a l. absurd (omega (arith, a, l)))
+
+cast-row : tie.Need-cast-row Inv-loop μ-loop Inv-loop2 μ-loop2
+cast-row c = omega arith
+
+mul-row : tie.Need-mul-row Inv-loop μ-loop Inv-loop2 μ-loop2
+mul-row c = omega arith
+
+element-copy-out-row : tie.Need-element-copy-out-row Inv-loop μ-loop Inv-loop2 μ-loop2
+element-copy-out-row c = omega arith
+
+is-fresh-requires : tie.Need-is-fresh-requires Inv-loop μ-loop Inv-loop2 μ-loop2
+is-fresh-requires c κs = search needs
+
+unsound-requires-2 : tie.Need-unsound-requires-2 Inv-loop μ-loop Inv-loop2 μ-loop2
+unsound-requires-2 c κs = search needs
+
+returns-2 : tie.Need-returns-2 Inv-loop μ-loop Inv-loop2 μ-loop2
+unfolding soundBlock
+returns-2 c =
+    let p = c .before .before in
+    let h = p .before .before .before in
+    let b = h .before .before .args .t1 in
+    let w = h .loop .spare in
+    let fails = sym (p .is-fresh .ensures) ∙ not-true _ (c .before .if2 .taken) in
+    not-sound b _ _ _ (c .unsound2 .ensures) (every-fails _ 1 (all-fails _ 32 w (omega arith) (sym (spare-row (b .warps) w (warpAt b w) (h .loop .inv .0)) ∙ fails)))
+
+add-spare : tie.Need-add-spare Inv-loop μ-loop Inv-loop2 μ-loop2
+add-spare c = omega arith
+
+loop-less : tie.Need-loop-less Inv-loop μ-loop Inv-loop2 μ-loop2
+loop-less c = omega arith
+
+loop-again : tie.Need-loop-again Inv-loop μ-loop Inv-loop2 μ-loop2
+loop-again c =
+    let h = c .before .before .before .before in
+    let b = h .before .before .args .t1 in
+    let w = h .loop .spare in
+    let fresh = sym (c .before .is-fresh .ensures) ∙ not-false _ (c .if2 .left) in
+    (omega arith, omega arith, fresh-more b w (h .loop .inv .2) fresh)
+
+loop2-holds : tie.Need-loop2-holds Inv-loop μ-loop Inv-loop2 μ-loop2
+unfolding setOf
+loop2-holds c = let b = c .before .before .before .args .t1 in (omega arith, all-none _, refl, gathered-none b)
+
+cast-row-2 : tie.Need-cast-row-2 Inv-loop μ-loop Inv-loop2 μ-loop2
+cast-row-2 c = omega arith
+
+mul-row-2 : tie.Need-mul-row-2 Inv-loop μ-loop Inv-loop2 μ-loop2
+mul-row-2 c = omega arith
+
+-- the warp is one of 32
+below : (c : tie.In-loop2 Inv-loop μ-loop Inv-loop2 μ-loop2) → c .before .loop2 .w < 32
+below c = let h = c .before in omega (arith, few (h .before .before .before), h .loop2 .inv .0)
+
+element-copy-out-row-2 : tie.Need-element-copy-out-row-2 Inv-loop μ-loop Inv-loop2 μ-loop2
+element-copy-out-row-2 c = below c
+
+waits-placed-requires : tie.Need-waits-placed-requires Inv-loop μ-loop Inv-loop2 μ-loop2
+waits-placed-requires c κs = search needs
+
+unsound-requires-3 : tie.Need-unsound-requires-3 Inv-loop μ-loop Inv-loop2 μ-loop2
+unsound-requires-3 c κs = search needs
+
+returns-3 : tie.Need-returns-3 Inv-loop μ-loop Inv-loop2 μ-loop2
+unfolding soundBlock
+returns-3 c =
+    let p = c .before .before in
+    let h = p .before .before .before in
+    let b = h .before .before .before .before .args .t1 in
+    let w = h .loop2 .w in
+    let l : w < b .warps = p .before .before .loop2-test .taken in
+    let fails = sym (p .waits-placed .ensures) ∙ not-true _ (c .before .if3 .taken) in
+    not-sound b _ _ _ (c .unsound3 .ensures) (every-fails _ 1 (all-fails _ 32 w (omega (arith, l, few (h .before .before .before))) (sym (own-row (b .warps) w (warpAt b w) l) ∙ fails)))
+
+is-live-requires : tie.Need-is-live-requires Inv-loop μ-loop Inv-loop2 μ-loop2
+is-live-requires c κs = search needs
+
+cast-alive : tie.Need-cast-alive Inv-loop μ-loop Inv-loop2 μ-loop2
+cast-alive c = search needs
+
+cast-alive-2 : tie.Need-cast-alive-2 Inv-loop μ-loop Inv-loop2 μ-loop2
+cast-alive-2 c = search needs
+
+shl-alive : tie.Need-shl-alive Inv-loop μ-loop Inv-loop2 μ-loop2
+shl-alive c = below (c .before .before .before .before)
+
+-- the live ones with one warp more
+live-more : (c : tie.After-is-live Inv-loop μ-loop Inv-loop2 μ-loop2)
+    → let h = c .before .before .before .before .before in h .loop2 .alive + boolByte (c .is-live .result) * 2 ^ h .loop2 .w % 2 ^ 32 ≡ setOf (h .loop2 .w + 1) (lives (h .before .before .before .before .args .t1))
+live-more c =
+    let h = c .before .before .before .before .before in
+    rw (h .loop2 .inv .2) (setOf-more _ (h .loop2 .w) _ (below (c .before .before .before .before)) (c .is-live .ensures))
+
+add-alive : tie.Need-add-alive Inv-loop μ-loop Inv-loop2 μ-loop2
+add-alive c =
+    let l = below (c .before .before .before .before) in
+    record { fits = rw (live-more c) (setOf-fits _ _ (omega (arith, l))) }
+
+enum-told : tie.Need-enum-told Inv-loop μ-loop Inv-loop2 μ-loop2
+enum-told c = search needs
+
+enum-known-s : tie.Need-enum-known-s Inv-loop μ-loop Inv-loop2 μ-loop2
+enum-known-s c = search needs
+
+-- a warp that waits does so at a barrier that there is
+placed : (c : tie.After-s Inv-loop μ-loop Inv-loop2 μ-loop2) → c .s .given .0 .0 < 16
+placed c =
+    let p = c .before .before .before in
+    ltb-true (c .s .given .0 .0) 16 (rw (c .s .given .1) at (sym (p .before .waits-placed .ensures) ∙ not-false _ (p .if3 .left)))
+
+cast-here : tie.Need-cast-here Inv-loop μ-loop Inv-loop2 μ-loop2
+cast-here c = search needs
+
+shl-here : tie.Need-shl-here Inv-loop μ-loop Inv-loop2 μ-loop2
+shl-here c = below (c .before .before .before .before .before .before .before)
+
+cast-here-2 : tie.Need-cast-here-2 Inv-loop μ-loop Inv-loop2 μ-loop2
+cast-here-2 c = omega (arith, placed (c .before))
+
+mul-here : tie.Need-mul-here Inv-loop μ-loop Inv-loop2 μ-loop2
+mul-here c = omega (arith, placed (c .before))
+
+array-read-here : tie.Need-array-read-here Inv-loop μ-loop Inv-loop2 μ-loop2
+array-read-here c = omega (arith, placed (c .before))
+
+add-here : tie.Need-add-here Inv-loop μ-loop Inv-loop2 μ-loop2
+add-here c =
+    let p = c .before .before .before .before .before .before .before in
+    let h = p .before in
+    let b = h .before .before .before .before .args .t1 in
+    let l = below p in
+    let e = waits-here b (h .loop2 .w) (h .loop2 .here) (h .loop2 .inv .3) _ (c .before .s .given .1) l (placed (c .before)) in
+    record { fits = rw e (setOf-fits _ _ (omega (arith, l))) }
+
+array-write-here : tie.Need-array-write-here Inv-loop μ-loop Inv-loop2 μ-loop2
+array-write-here c = omega (arith, placed (c .before))
+
+enum-told-2 : tie.Need-enum-told-2 Inv-loop μ-loop Inv-loop2 μ-loop2
+enum-told-2 c = search needs
+
+add-w : tie.Need-add-w Inv-loop μ-loop Inv-loop2 μ-loop2
+add-w c = omega arith
+
+loop2-less : tie.Need-loop2-less Inv-loop μ-loop Inv-loop2 μ-loop2
+loop2-less c = omega arith
+
+-- one warp more is gathered
+gathers : (c : tie.At-match-came Inv-loop μ-loop Inv-loop2 μ-loop2)
+    → let h = c .before .before .before .before .before .before in Gathered (h .loop2 .w + 1) (c .match .here) (h .before .before .before .before .args .t1)
+gathers c =
+    let p = c .before .before .before .before .before in
+    let h = p .before in
+    let b = h .before .before .before .before .args .t1 in
+    let w = h .loop2 .w in
+    let here = h .loop2 .here in
+    let so = h .loop2 .inv .3 in
+    ⊎-elim
+    (λ a. rw (a .2) (gathered-kept b w here so (λ k. rw (a .1 .given .1))))
+    (⊎-elim
+    (λ a.
+    let l = placed (record { before = record { before = c .before; match = a .0 }; s = a .1 }) in
+    rw (a .3) (gathered-more b w here so _ (a .1 .given .1) (below p) l))
+    (λ a. rw (a .2) (gathered-kept b w here so (λ k. rw (a .1 .given .1)))))
+    (c .match .came)
+
+loop2-again : tie.Need-loop2-again Inv-loop μ-loop Inv-loop2 μ-loop2
+loop2-again c =
+    let p = c .before .before in
+    let h = p .before .before .before .before in (
+      omega arith,
+      all-more _ (h .loop2 .w) (h .loop2 .inv .1) (sym (p .before .waits-placed .ensures) ∙ not-false _ (p .if3 .left)),
+      live-more (c .before),
+      gathers c,
+    )
+
+-- all rows past the number of warps are fresh
+all-spare : (c : tie.After-loop Inv-loop μ-loop Inv-loop2 μ-loop2) → FreshTo (c .before .before .before .args .t1) 32
+all-spare c v a l = c .before .loop .inv .2 v a (omega (arith, l, c .loop-test .left))
+
+-- the walk over the warps has come to their number
+at-end : (c : tie.After-loop2 Inv-loop μ-loop Inv-loop2 μ-loop2) → c .before .loop2 .w ≡ c .before .before .before .before .before .args .t1 .warps
+at-end c = le-antisymm (c .before .loop2 .inv .0) (c .loop2-test .left)
+
+mul-warp : tie.Need-mul-warp Inv-loop μ-loop Inv-loop2 μ-loop2
+mul-warp c = search needs
+
+element-copy-out-warp : tie.Need-element-copy-out-warp Inv-loop μ-loop Inv-loop2 μ-loop2
+element-copy-out-warp c = search needs
+
+fresh-warp-requires : tie.Need-fresh-warp-requires Inv-loop μ-loop Inv-loop2 μ-loop2
+fresh-warp-requires c κs = search needs
+
+mul-barrier : tie.Need-mul-barrier Inv-loop μ-loop Inv-loop2 μ-loop2
+mul-barrier c = search needs
+
+element-copy-out-barrier : tie.Need-element-copy-out-barrier Inv-loop μ-loop Inv-loop2 μ-loop2
+element-copy-out-barrier c = search needs
+
+idle-row-requires : tie.Need-idle-row-requires Inv-loop μ-loop Inv-loop2 μ-loop2
+idle-row-requires c κs = search needs
+
+rows-agree-requires : tie.Need-rows-agree-requires Inv-loop μ-loop Inv-loop2 μ-loop2
+rows-agree-requires c κs = search needs
+
+abbrev start : tie.After-loop2 Inv-loop μ-loop Inv-loop2 μ-loop2 → tie.Start Inv-loop μ-loop Inv-loop2 μ-loop2
+start p = p .before .before .before .before .before
+
+-- the rows that were read are those of the warp and the barrier
+warp-is : (j : tie.Joined4 Inv-loop μ-loop Inv-loop2 μ-loop2) → let a = start (j .before) .args in j .if4 .warp ≡ warpAt (a .t1) (a .own)
+warp-is j =
+    let z = start (j .before) in
+    ⊎-elim (λ t. t .2) (λ t. t .2 ∙ t .1 .ensures ∙ past (z .args .t1 .rows) freshWarp 32 (z .args .own) (simp length-map at (z .good .0 .1 .1 .1 .0 .1 .0 .1)) (t .0 .left)) (j .if4 .came)
+
+barrier-is : (j : tie.Joined5 Inv-loop μ-loop Inv-loop2 μ-loop2) → let a = start (j .before .before) .args in j .if5 .barrier ≡ barrierAt (a .t1) (a .named)
+barrier-is j =
+    let z = start (j .before .before) in
+    ⊎-elim (λ t. t .2) (λ t. t .2 ∙ t .1 .ensures ∙ past (z .args .t1 .barriers) idle 16 (z .args .named) (simp length-map at (z .good .0 .1 .1 .1 .1 .0 .1 .0 .1)) (t .0 .left)) (j .if5 .came)
+
+returns-4 : tie.Need-returns-4 Inv-loop μ-loop Inv-loop2 μ-loop2
+unfolding soundBlock every
+returns-4 c =
+    let j = c .before .before in
+    let p = j .before .before in
+    let h = p .before in
+    let b = start p .args .t1 in
+    let alive : h .loop2 .alive ≡ liveOf b = h .loop2 .inv .2 ∙ subst (λ (m : ℕ). setOf m (lives b) ≡ liveOf b) (sym (at-end p)) (live-all b (few (h .before .before .before))) in
+    record {
+      sound = rw (
+        c .rows-agree .ensures,
+        alive,
+        all-agreeing b (h .loop2 .here) (all-spare (h .before)) (subst (λ (m : ℕ). Gathered m (h .loop2 .here) b) (at-end p) (h .loop2 .inv .3)),
+        not-false (warpsCounted b) (h .before .before .before .if1 .left),
+        all-warps b (all-spare (h .before)) (subst (λ (m : ℕ). all m (λ v. waitsPlaced (warpAt b v .status)) ≡ true) (at-end p) (h .loop2 .inv .1)),
+      );
+      warps = λ _. refl;
+      live = λ _. alive;
+      warp = λ _. warp-is (j .before);
+      barrier = λ _. barrier-is j;
+    }
+
+pub survey-of-spec : {M : Type 1} → statement M
+survey-of-spec =
+    tie.close
+    (tie.spec
+    Inv-loop
+    μ-loop
+    Inv-loop2
+    μ-loop2
+    unsound-requires
+    returns
+    loop-holds
+    cast-row
+    mul-row
+    element-copy-out-row
+    is-fresh-requires
+    unsound-requires-2
+    returns-2
+    add-spare
+    loop-less
+    loop-again
+    loop2-holds
+    cast-row-2
+    mul-row-2
+    element-copy-out-row-2
+    waits-placed-requires
+    unsound-requires-3
+    returns-3
+    is-live-requires
+    cast-alive
+    cast-alive-2
+    shl-alive
+    add-alive
+    enum-told
+    enum-known-s
+    cast-here
+    shl-here
+    cast-here-2
+    mul-here
+    array-read-here
+    add-here
+    array-write-here
+    enum-told-2
+    add-w
+    loop2-less
+    loop2-again
+    mul-warp
+    element-copy-out-warp
+    fresh-warp-requires
+    mul-barrier
+    element-copy-out-barrier
+    idle-row-requires
+    rows-agree-requires
+    returns-4)
