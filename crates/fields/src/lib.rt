@@ -1,9 +1,8 @@
-// Little-endian numbers in a slice: one reader and one writer for every width up to 8.
+// Little-endian numbers in a slice: one reader for every width up to 8.
 ghost use mathlib.Core.Path.{_≡_};
-ghost use Prim.Native.Nat.{_+_, _≤_, _<_};
-ghost use lib.ListN.{length, drop, getD};
-ghost use lib.Seq.{sets};
-ghost use Rattle.fields.specs.Num.{num, room, bytes, upTo8, laid};
+ghost use Prim.Native.Nat.{_≤_, _<_};
+ghost use lib.ListN.{drop, getD};
+ghost use Rattle.fields.specs.Num.{num, room, upTo8};
 
 // The byte at a place, 0 past the end.
 fn byte(s: &[u8], at: usize) -> u8
@@ -38,59 +37,4 @@ pub fn number(s: &[u8], at: usize, width: usize) -> u64
         return number_in(&s[at..], 8);
     }
     number_in(&s[at..], width)
-}
-
-// The number in one byte.
-pub fn one(s: &[u8], at: usize) -> u8
-    ensures { λ r. ⌜ r ≡ num 1 (drop at (now (s .entry))) ⌝ }
-{
-    number(s, at, 1) as u8
-}
-
-// The number in two bytes.
-pub fn two(s: &[u8], at: usize) -> u16
-    ensures { λ r. ⌜ r ≡ num 2 (drop at (now (s .entry))) ⌝ }
-{
-    number(s, at, 2) as u16
-}
-
-// The number in four bytes.
-pub fn four(s: &[u8], at: usize) -> u32
-    ensures { λ r. ⌜ r ≡ num 4 (drop at (now (s .entry))) ⌝ }
-{
-    number(s, at, 4) as u32
-}
-
-// The number in eight bytes.
-pub fn eight(s: &[u8], at: usize) -> u64
-    ensures { λ r. ⌜ r ≡ num 8 (drop at (now (s .entry))) ⌝ }
-{
-    number(s, at, 8)
-}
-
-// The width lowest bytes of v, laid in from at on.
-fn put_in(out: &mut [u8], at: usize, width: usize, v: u64)
-    requires { ⌜ at + width ≤ length (now out) ⌝ }
-    ensures { λ _. ⌜ now (out .exit) ≡ sets (now (out .entry)) at (bytes width v) ⌝ }
-{
-    let mut left = v;
-    let mut i = 0;
-    while i < width {
-        out[at + i] = (left % 256) as u8;
-        left = left / 256;
-        i = i + 1;
-    }
-}
-
-// The width lowest bytes of v, laid in from at on; where they do not fit, nothing changes.
-pub fn put(out: &mut [u8], at: usize, width: usize, v: u64)
-    ensures { λ _. ⌜ now (out .exit) ≡ laid (now (out .entry)) at (bytes width v) ⌝ }
-{
-    if out.len() < at {
-        return;
-    }
-    if out.len() - at < width {
-        return;
-    }
-    put_in(&mut *out, at, width, v);
 }

@@ -95,16 +95,16 @@ fn places_at(s: &[u8], at: usize) -> Places
     let c = at + 3;
     let d = at + 5;
     Places {
-        one1: fields::one(s, a),
-        two1: fields::two(s, a),
-        eight1: fields::eight(s, a),
-        one2: fields::one(s, b),
-        two2: fields::two(s, b),
-        one3: fields::one(s, c),
-        two3: fields::two(s, c),
-        four3: fields::four(s, c),
-        eight3: fields::eight(s, c),
-        four5: fields::four(s, d),
+        one1: widths::one(s, a),
+        two1: widths::two(s, a),
+        eight1: widths::eight(s, a),
+        one2: widths::one(s, b),
+        two2: widths::two(s, b),
+        one3: widths::one(s, c),
+        two3: widths::two(s, c),
+        four3: widths::four(s, c),
+        eight3: widths::eight(s, c),
+        four5: widths::four(s, d),
     }
 }
 
@@ -155,7 +155,7 @@ fn step_at(kind: u8, s: &[u8], at: usize) -> Step
     ensures { λ r. ⌜ r ≡ stepOf kind (decode (row kind) (drop at (now (s .entry)))) ⌝ }
 {
     Step {
-        warp: fields::one(s, at),
+        warp: widths::one(s, at),
         op: op_of(kind, places_at(s, at)),
     }
 }

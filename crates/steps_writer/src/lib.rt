@@ -77,7 +77,7 @@ fn put_row(out: &mut [u8], at: usize, kind: u8, v: [u64; 5])
     let mut i = 0;
     while i < 5 {
         let w = widths::width_of(kind, i);
-        fields::put(&mut *out, p, w, v[i]);
+        fields_writer::put(&mut *out, p, w, v[i]);
         p = p + w;
         i = i + 1;
     }

@@ -1,4 +1,4 @@
--- `fields::put_in` meets its contract. The invariant: what is left to store, stored, gives what all of it gives.
+-- `fields_writer::put_in` meets its contract. The invariant: what is left to store, stored, gives what all of it gives.
 -- Assumes nothing.
 use Prim.Native.Nat.{ℕ, suc, _+_, _-_, _/_, _%_, _≤_, _<_}
 use mathlib.Core.Path.{_≡_, refl}
@@ -7,9 +7,9 @@ use native.Mathlib.Omega.{arith}
 use native.Mathlib.Nat.{add-zero, sub-zero}
 use lib.ListN.{length, set, length-set}
 use lib.Seq.{sets}
 use Rattle.fields.specs.Num.{bytes}
-use Rattle.fields.proofs.put_in.Statement.{statement}
-use Rattle.fields.proofs.put_in.Tie as tie
+use Rattle.fields_writer.proofs.put_in.Statement.{statement}
+use Rattle.fields_writer.proofs.put_in.Tie as tie
 
 abbrev Inv-loop : tie.InvT-loop
 Inv-loop out₀ at width v left₀ i₀ out left i =

@@ -1,13 +1,13 @@
--- `fields::put` meets its contract: where the bytes fit, they are stored one by one, and else nothing is.
+-- `fields_writer::put` meets its contract: where the bytes fit, they are stored one by one, and else nothing is.
 -- Assumes nothing.
 use mathlib.Core.Path.{_∙_}
 use native.Mathlib.Omega.{arith}
 use denote.Ref.{now}
 use Rattle.fields.specs.Num.{bytes}
 use Rattle.fields.proofs.Num.{length-bytes, laid-fits, laid-short}
 use borrow.Author.Needs.{needs}
-use Rattle.fields.proofs.put.Statement.{statement}
-use Rattle.fields.proofs.put.Tie as tie
+use Rattle.fields_writer.proofs.put.Statement.{statement}
+use Rattle.fields_writer.proofs.put.Tie as tie
 
 returns : tie.Need-returns
 returns c =
