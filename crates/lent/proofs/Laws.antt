@@ -29,7 +29,7 @@ use Rattle.lent.specs.Laws.{RefusedExactly, RefusedLeaves, OthersLeft, K
 -- ---- a step
 
 pub step-refused : RefusedExactly
-step-refused x s r l y e n = subst (λ (v : Verdict). (v ≡ Refused n) ↔ Lowest (lines (viewOf (x .tables) s) s) n) (sym (e .verdict)) (refused-exactly (x .tables) s n)
+step-refused x s v b l y e n = subst (λ (u : Verdict). (u ≡ Refused n) ↔ Lowest (lines (viewOf (x .tables) s) s) n) (sym (e .verdict)) (refused-exactly (x .tables) s n)
 
 -- a refusal adds one to the refused number
 counts : (y : Tally) (v : Verdict) → isAccepted v ≡ false → tallied y v ≡ record { accepted = y .accepted; refused = counted (y .refused) }
@@ -37,7 +37,7 @@ counts y (Refused n) e = refl
 counts y (Accepted v d r) e = cc
 
 pub refused-leaves : RefusedLeaves
-refused-leaves x s r l y e out =
+refused-leaves x s v b l y e out =
     let h = ap isAccepted (sym (e .verdict)) ∙ out in
     let same = refused-leaves-all (x .tables) s h .tables in
     record {
@@ -47,10 +47,10 @@ refused-leaves x s r l y e out =
     }
 
 pub others-left : OthersLeft
-others-left x s r l y e i h = ap (λ z. getD z i dead) (e .objects) ∙ objects-left (x .tables) s i h
+others-left x s v b l y e i h = ap (λ z. getD z i dead) (e .objects) ∙ objects-left (x .tables) s i h
 
 pub keeps-sound : KeepsSound
-keeps-sound x s r l y e shaped h = (λ i. soundTables (tablesOf (e .block i) (e .objects i))) ∙ kept.keeps-sound (x .tables) s shaped h
+keeps-sound x s v b l y e shaped h = (λ i. soundTables (tablesOf (e .block i) (e .objects i))) ∙ kept.keeps-sound (x .tables) s shaped h
 
 -- ---- fresh tables
 

@@ -1,4 +1,4 @@
--- What a step is lent and what it answers, each as one machine value: the block, the array of rows, the tally, a verdict, a turn.
+-- What a step is lent and what it answers, each as one machine value: the block, the array of rows, the tally, a verdict.
 -- Assumes nothing.
 use mathlib.Core.Path.{_≡_, subst}
 use mathlib.Core.List.{List, [], _∷_}
@@ -13,13 +13,10 @@ use Rattle.object.proofs.Object as O
 use Rattle.object.proofs.Object.Laws as O′
 use Rattle.block.specs.declared.Block.{Block}
 use Rattle.block.specs.declared.Verdict.{Verdict}
-use Rattle.block.specs.declared.Turn.{Turn}
 use Rattle.block.proofs.Block as B
 use Rattle.block.proofs.Block.Laws as B′
 use Rattle.block.proofs.Verdict as E
 use Rattle.block.proofs.Verdict.Laws as E′
-use Rattle.block.proofs.Turn as N
-use Rattle.block.proofs.Turn.Laws as N′
 use Rattle.tables.specs.declared.Tally.{Tally}
 use Rattle.tables.proofs.Tally as T
 use Rattle.tables.proofs.Tally.Laws as T′
@@ -45,6 +42,3 @@ spelt-E v u is = subst (Is E.the-row v) (LE.tells E.the-type E′.the-laws v (u 
 
 pub spelt-T : (t : Tally) (u : Val) → Is T.the-row t (u ∷ []) → Is T.the-row t (LL.vals T.the-type T′.the-laws t)
 spelt-T t u is = subst (Is T.the-row t) (LL.tells T.the-type T′.the-laws t (u ∷ []) is) is
-
-pub spelt-N : (r : Turn) (u : Val) → Is N.the-row r (u ∷ []) → Is N.the-row r (LL.vals N.the-type N′.the-laws r)
-spelt-N r u is = subst (Is N.the-row r) (LL.tells N.the-type N′.the-laws r (u ∷ []) is) is

@@ -1,4 +1,4 @@
--- What the entries promise over the list and the tally that the caller lends: document 01, "The tables" and "Refusal numbers".
+-- What the entries promise over what the caller lends: document 01, "The tables" and "Refusal numbers".
 -- Assumes nothing.
 use mathlib.Core.Path.{_≡_}
 use mathlib.Core.Bool.{false, not, cond, _||_}
@@ -15,7 +15,6 @@ use Rattle.block.specs.declared.Verdict.{Verdict}
 use Rattle.block.specs.declared.Verdict.the-variants.{Refused, Accepted}
 use Rattle.block.specs.declared.Turn.{Turn}
 use Rattle.block.specs.Tables.{mostWarps, freshBlock}
-use Rattle.tables.specs.declared.Taken.{Taken}
 use Rattle.tables.specs.declared.Tally.{Tally}
 use Rattle.tables.specs.Tables.{Tables, freshTables, freshTally}
 use Rattle.tables.specs.Effect.{State, verdict, next}
@@ -28,20 +27,12 @@ tablesOf b l = record { block = b; objects = l }
 abbrev pub stateOf : Block → List Object → Tally → State
 stateOf b l y = record { tables = tablesOf b l; tally = y }
 
--- the answer of a step that was taken: its verdict and the block
-abbrev pub turnOf : Taken → Turn
-turnOf u = record { verdict = u .verdict; block = u .block }
-
--- one step on block, list and tally: what it answers, and the list and the tally as they lie afterwards
-pub record Stepped (x : State) (s : Step) (r : Turn) (l : List Object) (y : Tally) : Type 0 where
-  pub verdict : r .verdict ≡ verdict (x .tables) s
-  pub block : r .block ≡ next x s .tables .block
+-- one step on block, list and tally: what it answers, and block, list and tally as they lie afterwards
+pub record Stepped (x : State) (s : Step) (v : Verdict) (b : Block) (l : List Object) (y : Tally) : Type 0 where
+  pub verdict : v ≡ verdict (x .tables) s
+  pub block : b ≡ next x s .tables .block
   pub objects : l ≡ next x s .tables .objects
   pub tally : y ≡ next x s .tally
-
--- the same where the block is lent too: what it answers, and block, list and tally as they lie afterwards
-abbrev pub SteppedIn : State → Step → Verdict → Block → List Object → Tally → Type 0
-SteppedIn x s v b l y = Stepped x s (record { verdict = v; block = b }) l y
 
 -- ---- fresh tables
 

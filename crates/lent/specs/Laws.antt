@@ -10,6 +10,8 @@ use Rattle.folds.specs.Lowest.{Lowest}
 use Rattle.steps.specs.declared.Step.{Step}
 use Rattle.object.specs.declared.Object.{Object}
 use Rattle.object.specs.Row.{dead}
+use Rattle.block.specs.declared.Block.{Block}
+use Rattle.block.specs.declared.Verdict.{Verdict}
 use Rattle.block.specs.declared.Verdict.the-variants.{Refused}
 use Rattle.block.specs.declared.Turn.{Turn}
 use Rattle.block_laws.specs.Sound.{Shaped}
@@ -24,29 +26,29 @@ use Rattle.lent.specs.Entries.{tablesOf, Stepped, freshLines, Freshened}
 -- it is refused with n exactly when line n applies and no lower line does
 abbrev pub RefusedExactly : Type 0
 RefusedExactly =
-    (x : State) (s : Step) (r : Turn) (l : List Object) (y : Tally) → Stepped x s r l y
-    → (n : ℕ) → (r .verdict ≡ Refused n) ↔ Lowest (lines (viewOf (x .tables) s) s) n
+    (x : State) (s : Step) (v : Verdict) (b : Block) (l : List Object) (y : Tally) → Stepped x s v b l y
+    → (n : ℕ) → (v ≡ Refused n) ↔ Lowest (lines (viewOf (x .tables) s) s) n
 
 -- what a refused step leaves: only the tally counts it
-pub record Left (x : State) (r : Turn) (l : List Object) (y : Tally) : Type 0 where
-  pub block : r .block ≡ x .tables .block
+pub record Left (x : State) (b : Block) (l : List Object) (y : Tally) : Type 0 where
+  pub block : b ≡ x .tables .block
   pub objects : l ≡ x .tables .objects
   pub tally : y ≡ record { accepted = x .tally .accepted; refused = counted (x .tally .refused) }
 
 abbrev pub RefusedLeaves : Type 0
-RefusedLeaves = (x : State) (s : Step) (r : Turn) (l : List Object) (y : Tally) → Stepped x s r l y → isAccepted (r .verdict) ≡ false → Left x r l y
+RefusedLeaves = (x : State) (s : Step) (v : Verdict) (b : Block) (l : List Object) (y : Tally) → Stepped x s v b l y → isAccepted v ≡ false → Left x b l y
 
 -- the rows that the step does not name are unchanged
 abbrev pub OthersLeft : Type 0
 OthersLeft =
-    (x : State) (s : Step) (r : Turn) (l : List Object) (y : Tally) → Stepped x s r l y
+    (x : State) (s : Step) (v : Verdict) (b : Block) (l : List Object) (y : Tally) → Stepped x s v b l y
     → (i : ℕ) → (i ≡ slotOf (s .op) → ⊥) → getD l i dead ≡ getD (x .tables .objects) i dead
 
 -- sound tables stay sound
 abbrev pub KeepsSound : Type 0
 KeepsSound =
-    (x : State) (s : Step) (r : Turn) (l : List Object) (y : Tally) → Stepped x s r l y
-    → Shaped (x .tables .block) → soundTables (x .tables) ≡ true → soundTables (tablesOf (r .block) l) ≡ true
+    (x : State) (s : Step) (v : Verdict) (b : Block) (l : List Object) (y : Tally) → Stepped x s v b l y
+    → Shaped (x .tables .block) → soundTables (x .tables) ≡ true → soundTables (tablesOf b l) ≡ true
 
 -- ---- fresh tables
 

@@ -1,15 +1,14 @@
-// The tables that the caller lends, a list of object rows and a tally: the row that a step names is copied, stepped by value and stored back.
+// The tables that the caller lends, a list of object rows and a tally: whether they are sound, which row a step names, and fresh tables.
 use block::Block;
 use block::Turn;
 use block::Verdict;
 use object::Object;
 use rows::SLOTS;
 use steps::Step;
-use tables::Taken;
 use tables::Tally;
 ghost use mathlib.Core.Path.{_≡_};
 ghost use Rattle.tables.specs.Tables.{soundTables, slotOf, freshTally};
-ghost use Rattle.lent.specs.Entries.{tablesOf, stateOf, turnOf, Stepped, freshRefusal, freshTurn, Freshened};
+ghost use Rattle.lent.specs.Entries.{tablesOf, freshRefusal, freshTurn, Freshened};
 
 // A block has at most 32 warps.
 const MOST_WARPS: u8 = 32;
@@ -27,28 +26,6 @@ pub fn slot(s: Step) -> usize
 {
     let op = s.op;
     tables::slot_of(op)
-}
-
-// The answer of a step that was taken.
-fn turn_of(t: Taken) -> Turn
-    ensures { λ r. ⌜ r ≡ turnOf t ⌝ }
-{
-    let verdict = t.verdict;
-    let block = t.block;
-    Turn { verdict, block }
-}
-
-// One step: refused, it leaves block and list; either way the tally counts it.
-pub fn step(b: Block, objects: &mut [Object], tally: &mut Tally, s: Step) -> Turn
-    ensures { λ r. ⌜ Stepped (stateOf b (now (objects .entry)) (now (tally .entry))) s r (now (objects .exit)) (now (tally .exit)) ⌝ }
-{
-    let fine = rows::rows_sound(objects);
-    let at = slot(s);
-    let row = rows::row_at(objects, at);
-    let out = whole_step::take(b, fine, row, s);
-    rows::put_row(objects, at, out.object);
-    rows::count(tally, out.verdict);
-    turn_of(out)
 }
 
 // The lowest line that refuses fresh tables over so many records, and 0 if none does.

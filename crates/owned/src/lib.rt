@@ -1,6 +1,5 @@
 // Block, list and tally by value: the entries of `lent` for whoever owns what they are lent.
 use block::Block;
-use block::Turn;
 use block::Verdict;
 use object::Object;
 use rows::SLOTS;
@@ -23,11 +22,9 @@ pub struct OwnedTurn {
 }
 
 // The owner of what a step left.
-fn bundle(t: Turn, objects: [Object; SLOTS], tally: Tally) -> OwnedTurn
-    ensures { λ r. ⌜ r ≡ bundled t objects tally ⌝ }
+fn bundle(verdict: Verdict, block: Block, objects: [Object; SLOTS], tally: Tally) -> OwnedTurn
+    ensures { λ r. ⌜ r ≡ bundled verdict block objects tally ⌝ }
 {
-    let verdict = t.verdict;
-    let block = t.block;
     OwnedTurn {
         verdict,
         state: Owned {
@@ -38,12 +35,17 @@ fn bundle(t: Turn, objects: [Object; SLOTS], tally: Tally) -> OwnedTurn
     }
 }
 
-// One step on block, list and tally by value: list and tally are lent to `lent::step` where they lie.
-fn step_parts(b: Block, mut objects: [Object; SLOTS], mut tally: Tally, s: Step) -> OwnedTurn
-    ensures { λ r. ⌜ r ≡ ownedStep (record { block = b; objects = objects; tally = tally }) s ⌝ }
+// One step on block, list and tally by value, which are lent to the step where they lie.
+fn step_parts(
+    mut block: Block,
+    mut objects: [Object; SLOTS],
+    mut tally: Tally,
+    s: Step,
+) -> OwnedTurn
+    ensures { λ r. ⌜ r ≡ ownedStep (record { block = block; objects = objects; tally = tally }) s ⌝ }
 {
-    let t = lent::step(b, &mut objects, &mut tally, s);
-    bundle(t, objects, tally)
+    let verdict = lent_step::step(&mut block, &mut objects, &mut tally, s);
+    bundle(verdict, block, objects, tally)
 }
 
 // One step on what is owned.
@@ -64,5 +66,8 @@ pub fn fresh_owned(warps: u8) -> OwnedTurn
     let row = object::dead();
     let objects = [row; SLOTS];
     let tally = lent::fresh_tally();
-    bundle(lent::fresh_turn(n, warps), objects, tally)
+    let t = lent::fresh_turn(n, warps);
+    let verdict = t.verdict;
+    let block = t.block;
+    bundle(verdict, block, objects, tally)
 }

@@ -96,7 +96,7 @@ module _ (s : List ℕ) (b : Block) (ys : List Object) (h : Tally) (l l′ : Lay
       (λ more n e. rw (found ∙ look-stop s l more n e) (λ g. absurd (true≢false (sym g))))
       (λ more st c e. rw (found ∙ look-step s l more st c e) (λ _. moves s (l .cursor .at) st c e))
 
-  taken-too : (r : Turn) (zs : List Object) (h′ : Tally) → Stepped (stateOf b ys h) (l′ .step) r zs h′
+  taken-too : (r : Turn) (zs : List Object) (h′ : Tally) → Stepped (stateOf b ys h) (l′ .step) (r .verdict) (r .block) zs h′
       → lineOf (numberIn (l′ .lines)) (r .verdict) ++ left s (runOf (r .block) zs h′ (lineLaid l′ (r .verdict))) ≡ lineOf (numberIn (l′ .lines)) v ++ left s next-run
   taken-too r zs h′ e = λ i. lineOf (numberIn (l′ .lines)) (e .verdict i)
       ++ left s (record { state = record { block = e .block i; objects = e .objects i; tally = e .tally i }; cursor = l′ .cursor; lines = tallied (l′ .lines) (e .verdict i) })
@@ -112,7 +112,7 @@ module _ (s : List ℕ) (b : Block) (ys : List Object) (h : Tally) (l l′ : Lay
     pub line-fits : l′ .at + mostLine < 18446744073709551616
     line-fits = omega (arith, look-at, so .size, text-small s)
 
-    pub left-next : l′ .going ≡ true → (r : Turn) (zs : List Object) (h′ : Tally) → Stepped (stateOf b ys h) (l′ .step) r zs h′
+    pub left-next : l′ .going ≡ true → (r : Turn) (zs : List Object) (h′ : Tally) → Stepped (stateOf b ys h) (l′ .step) (r .verdict) (r .block) zs h′
         → Left s out₀ (laid out (l′ .at) (lineOf (numberIn (l′ .lines)) (r .verdict))) (r .block) zs h′ (lineLaid l′ (r .verdict))
     left-next going r zs h′ e =
         let w = lineOf (numberIn (l′ .lines)) (r .verdict) in

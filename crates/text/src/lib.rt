@@ -59,7 +59,7 @@ fn lay_turns(
         if !l.going {
             break;
         }
-        let v = lent_all::step(&mut block, &mut objects, &mut tally, l.step);
+        let v = lent_step::step(&mut block, &mut objects, &mut tally, l.step);
         let laid = lay_line(&mut *out, l, v);
         l = laid;
     }

@@ -185,8 +185,8 @@ module _ {M : Type 1} (𝓤 : URA M) (H : Heap 𝓤) (A : Atoms 𝓤) (W : Given
         use2 W (‵ (partAt B.the-row fullShare d′ b o)) (rows-in 𝓤 H A W d₂ b o ws′) $ land ! (from ! (stop !)) (store ! 18 refl (tt, tt)) $
         -- the borrow is closed
         assigns ! (of-opd ! (unit-lit !)) (from ! (stop !)) (init ! 24 refl (tt, tt)) $ close-ref ! tt (mem B.the-row) d′ {b = b} {o = o} $
-        returns ! (look ! 23 refl) $ move ! (23 ∷ 24 ∷ 21 ∷ 22 ∷ 19 ∷ 20 ∷ 17 ∷ 18 ∷ 15 ∷ 16 ∷ 13 ∷ 14 ∷ 11 ∷ 12 ∷ 9 ∷ 10 ∷ 7 ∷ 8 ∷ 5 ∷ 6 ∷ []) $
-        gone1 ! $ gone1 ! $ gone1 ! $ gone1 ! $ gone1 ! $ gone1 ! $ gone1 ! $ gone1 ! $ gone1 ! $ gone1 ! $ free0 ! $ keep ! (0 ∷ 1 ∷ 2 ∷ []) $ by ! exits)))))))))))))
+        returns ! (look ! 23 refl) $ move ! (23 ∷ 24 ∷ []) $ gone1 ! $ move ! (21 ∷ 22 ∷ []) $ gone1 ! $ move ! (19 ∷ 20 ∷ []) $ gone1 ! $ move ! (17 ∷ 18 ∷ []) $ gone1 ! $ move ! (15 ∷ 16 ∷ []) $ gone1 ! $ move ! (13 ∷ 14 ∷ []) $ gone1 ! $
+        move ! (11 ∷ 12 ∷ []) $ gone1 ! $ move ! (9 ∷ 10 ∷ []) $ gone1 ! $ move ! (7 ∷ 8 ∷ []) $ gone1 ! $ move ! (5 ∷ 6 ∷ []) $ gone1 ! $ free0 ! $ keep ! (0 ∷ 1 ∷ 2 ∷ []) $ by ! exits)))))))))))))
       where
         is-warp : Is usize (c .warp) (vint w64 (c .warp) ∷ [])
         is-warp = LL.owed N.the-type N′.the-laws c _ is-c .0

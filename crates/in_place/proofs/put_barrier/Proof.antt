@@ -97,7 +97,8 @@ module _ {M : Type 1} (𝓤 : URA M) (H : Heap 𝓤) (A : Atoms 𝓤) (W : Given
         assigns ! (bin ! (load ! (from ! (stop !)) (look ! 4 refl)) (load ! (from ! (stop !)) (look ! 8 refl)) tt) (from ! (stop !)) (init ! 2 refl (tt, tt)) $
         forks ! (load ! (from ! (stop !)) (look ! 2 refl))
         (λ out. assigns ! (of-opd ! (unit-lit !)) (from ! (stop !)) (init ! 12 refl (tt, tt)) $ returns-within ! Post refl (look ! 12 refl) $
-        move ! (12 ∷ 13 ∷ 10 ∷ 11 ∷ 8 ∷ 9 ∷ 6 ∷ 7 ∷ 4 ∷ 5 ∷ 2 ∷ 3 ∷ 0 ∷ 1 ∷ []) $ gone1 ! $ gone1 ! $ gone1 ! $ gone1 ! $ gone1 ! $ gone1 ! $ free1 ! $ free0 ! $ by ! (exits-past (sym (set-out ys i d (leb→le (length ys) i out)))))
+        move ! (12 ∷ 13 ∷ []) $ gone1 ! $ move ! (10 ∷ 11 ∷ []) $ gone1 ! $ move ! (8 ∷ 9 ∷ []) $ gone1 ! $ move ! (6 ∷ 7 ∷ []) $ gone1 ! $ move ! (4 ∷ 5 ∷ []) $ gone1 ! $ move ! (2 ∷ 3 ∷ []) $ gone1 ! $
+        move ! (0 ∷ 1 ∷ []) $ free1 ! $ free0 ! $ by ! (exits-past (sym (set-out ys i d (leb→le (length ys) i out)))))
         (λ no. assigns ! (bin ! (load ! (from ! (stop !)) (look ! 8 refl)) (lit ! tt) (record { fits = place-fits (nleb→lt (length ys) i no) })) (from ! (stop !)) (store ! 4 refl (tt, record { fits = place-fits (nleb→lt (length ys) i no) })) $
         assigns ! (bin ! (load ! (from ! (fld ! refl (stop !))) (look-in ! 10 (sub ! 0 refl (whole !)))) (load ! (from ! (stop !)) (look ! 4 refl)) tt) (from ! (stop !)) (init ! 0 refl (tt, tt)) $
         rewrite ! 0 (λ (p : ℕ). ‵ (fat fullShare tyPtr l₆ 0 (vptr b p))) (sym (place-is 16 o i)) refl $
@@ -108,7 +109,8 @@ module _ {M : Type 1} (𝓤 : URA M) (H : Heap 𝓤) (A : Atoms 𝓤) (W : Given
         move ! (1 ∷ []) $ drop ! $ owned ! B.the-row (Is B.the-row) (LL.makes B.the-type B′.the-plain 𝓤 H A) d _ is $ move ! (1 ∷ 0 ∷ []) $ elem-put ! B.the-row fullShare ys i d (mach ∷ []) b o (nleb→lt (length ys) i no) $
         closes-slice ! tt B.the-row ys zs (length-set ys i d) b o $
         assigns ! (of-opd ! (unit-lit !)) (from ! (stop !)) (init ! 18 refl (tt, tt)) $
-        returns ! (look ! 18 refl) $ move ! (18 ∷ 19 ∷ 16 ∷ 17 ∷ 14 ∷ 15 ∷ 12 ∷ 13 ∷ 10 ∷ 11 ∷ 8 ∷ 9 ∷ 6 ∷ 7 ∷ []) $ gone1 ! $ gone1 ! $ gone1 ! $ gone1 ! $ gone1 ! $ gone1 ! $ gone1 ! $ free0 ! $
+        returns ! (look ! 18 refl) $ move ! (18 ∷ 19 ∷ []) $ gone1 ! $ move ! (16 ∷ 17 ∷ []) $ gone1 ! $ move ! (14 ∷ 15 ∷ []) $ gone1 ! $ move ! (12 ∷ 13 ∷ []) $ gone1 ! $ move ! (10 ∷ 11 ∷ []) $ gone1 ! $ move ! (8 ∷ 9 ∷ []) $ gone1 ! $
+        move ! (6 ∷ 7 ∷ []) $ gone1 ! $ free0 ! $
         keep ! (0 ∷ 1 ∷ 2 ∷ 5 ∷ []) $ by ! (exits room))))))))))
       where
         place-fits : i < length ys → i * 16 < 2 ^ 64

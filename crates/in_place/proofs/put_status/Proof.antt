@@ -124,8 +124,8 @@ module _ {M : Type 1} (𝓤 : URA M) (H : Heap 𝓤) (A : Atoms 𝓤) (W : Given
         forks ! (load ! (from ! (stop !)) (look ! 10 refl))
         -- past the end
         (λ out. assigns ! (of-opd ! (unit-lit !)) (from ! (stop !)) (init ! 20 refl (tt, tt)) $ returns-within ! Post refl (look ! 20 refl) $
-        move ! (20 ∷ 21 ∷ 18 ∷ 19 ∷ 16 ∷ 17 ∷ 14 ∷ 15 ∷ 12 ∷ 13 ∷ 10 ∷ 11 ∷ 8 ∷ 9 ∷ 6 ∷ 7 ∷ 4 ∷ 5 ∷ 2 ∷ 3 ∷ 0 ∷ 1 ∷ []) $
-        gone1 ! $ gone1 ! $ gone1 ! $ gone1 ! $ gone1 ! $ gone1 ! $ free1 ! $ free1 ! $ free1 ! $ free1 ! $ free1 ! $ free0 ! $ by ! (exits-past (sym (set-out ys i new (leb→le (length ys) i out)))))
+        move ! (20 ∷ 21 ∷ []) $ gone1 ! $ move ! (18 ∷ 19 ∷ []) $ gone1 ! $ move ! (16 ∷ 17 ∷ []) $ gone1 ! $ move ! (14 ∷ 15 ∷ []) $ gone1 ! $ move ! (12 ∷ 13 ∷ []) $ gone1 ! $ move ! (10 ∷ 11 ∷ []) $ gone1 ! $
+        move ! (8 ∷ 9 ∷ []) $ free1 ! $ move ! (6 ∷ 7 ∷ []) $ free1 ! $ move ! (4 ∷ 5 ∷ []) $ free1 ! $ move ! (2 ∷ 3 ∷ []) $ free1 ! $ move ! (0 ∷ 1 ∷ []) $ free1 ! $ free0 ! $ by ! (exits-past (sym (set-out ys i new (leb→le (length ys) i out)))))
         -- a row
         (λ no. assigns ! (bin ! (load ! (from ! (stop !)) (look ! 16 refl)) (lit ! tt) (record { fits = place-fits (nleb→lt (length ys) i no) })) (from ! (stop !)) (store ! 12 refl (tt, record { fits = place-fits (nleb→lt (length ys) i no) })) $
         assigns ! (bin ! (load ! (from ! (fld ! refl (stop !))) (look-in ! 18 (sub ! 0 refl (whole !)))) (load ! (from ! (stop !)) (look ! 12 refl)) tt) (from ! (stop !)) (init ! 6 refl (tt, tt)) $
@@ -146,8 +146,8 @@ module _ {M : Type 1} (𝓤 : URA M) (H : Heap 𝓤) (A : Atoms 𝓤) (W : Given
         closes-slice ! tt R.the-row ys zs (length-set ys i new) b o $
         -- [obs; the borrow; the token; true; the slice's fact; i's and s's; _10; …; _9; …; and so on to _0]
         assigns ! (of-opd ! (unit-lit !)) (from ! (stop !)) (init ! 26 refl (tt, tt)) $
-        returns ! (look ! 26 refl) $ move ! (26 ∷ 27 ∷ 24 ∷ 25 ∷ 22 ∷ 23 ∷ 20 ∷ 21 ∷ 18 ∷ 19 ∷ 16 ∷ 17 ∷ 14 ∷ 15 ∷ 12 ∷ 13 ∷ 10 ∷ 11 ∷ 8 ∷ 9 ∷ 6 ∷ 7 ∷ []) $
-        gone1 ! $ gone1 ! $ gone1 ! $ gone1 ! $ gone1 ! $ gone1 ! $ gone1 ! $ gone1 ! $ gone1 ! $ gone1 ! $ gone1 ! $ free0 ! $ keep ! (0 ∷ 1 ∷ 2 ∷ 5 ∷ []) $ by ! (exits room)))))))))))))))
+        returns ! (look ! 26 refl) $ move ! (26 ∷ 27 ∷ []) $ gone1 ! $ move ! (24 ∷ 25 ∷ []) $ gone1 ! $ move ! (22 ∷ 23 ∷ []) $ gone1 ! $ move ! (20 ∷ 21 ∷ []) $ gone1 ! $ move ! (18 ∷ 19 ∷ []) $ gone1 ! $ move ! (16 ∷ 17 ∷ []) $ gone1 ! $
+        move ! (14 ∷ 15 ∷ []) $ gone1 ! $ move ! (12 ∷ 13 ∷ []) $ gone1 ! $ move ! (10 ∷ 11 ∷ []) $ gone1 ! $ move ! (8 ∷ 9 ∷ []) $ gone1 ! $ move ! (6 ∷ 7 ∷ []) $ gone1 ! $ free0 ! $ keep ! (0 ∷ 1 ∷ 2 ∷ 5 ∷ []) $ by ! (exits room)))))))))))))))
       where
         place-fits : i < length ys → i * 8 < 2 ^ 64
         place-fits within = omega (arith, room .1)

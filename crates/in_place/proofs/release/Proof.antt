@@ -172,8 +172,9 @@ module _ {M : Type 1} (𝓤 : URA M) (H : Heap 𝓤) (A : Atoms 𝓤) (W : Given
           rewrite ! 0 (λ (k : ℕ). ‵ (row R.the-row fullShare (to k) b o)) (all n) refl $
           move ! (0 ∷ 15 ∷ 16 ∷ 17 ∷ []) $ closes-slice ! tt R.the-row ys zs (length-to n) b o $
           -- [obs; the borrow; the token; _5; _7; _8; _9; _10; _11; _12; _13; _4; _3; _2; _1; _0; _6; r's; and that each local dies]
-          returns ! (look ! 15 refl) $ move ! (15 ∷ 18 ∷ 14 ∷ 19 ∷ 13 ∷ 20 ∷ 12 ∷ 21 ∷ 11 ∷ 22 ∷ 3 ∷ 23 ∷ 16 ∷ 24 ∷ 4 ∷ 25 ∷ 5 ∷ 26 ∷ 6 ∷ 27 ∷ 7 ∷ 28 ∷ 8 ∷ 29 ∷ 9 ∷ 30 ∷ 10 ∷ 31 ∷ []) $
-          gone1 ! $ gone1 ! $ gone1 ! $ gone1 ! $ gone1 ! $ gone1 ! $ free1 ! $ gone1 ! $ free1 ! $ free1 ! $ free1 ! $ free1 ! $ free1 ! $ free1 ! $ free0 ! $ by ! exits)
+          returns ! (look ! 15 refl) $ move ! (15 ∷ 18 ∷ []) $ gone1 ! $ move ! (14 ∷ 17 ∷ []) $ gone1 ! $ move ! (13 ∷ 16 ∷ []) $ gone1 ! $ move ! (12 ∷ 15 ∷ []) $ gone1 ! $ move ! (11 ∷ 14 ∷ []) $ gone1 ! $ move ! (3 ∷ 13 ∷ []) $ gone1 ! $
+          move ! (10 ∷ 12 ∷ []) $ free1 ! $ move ! (3 ∷ 11 ∷ []) $ gone1 ! $ move ! (3 ∷ 10 ∷ []) $ free1 ! $ move ! (3 ∷ 9 ∷ []) $ free1 ! $ move ! (3 ∷ 8 ∷ []) $ free1 ! $ move ! (3 ∷ 7 ∷ []) $ free1 ! $
+          move ! (3 ∷ 6 ∷ []) $ free1 ! $ move ! (3 ∷ 5 ∷ []) $ free1 ! $ free0 ! $ by ! exits)
         where
           all : (m : ℕ) → m - 0 ≡ m
           all m = omega arith
@@ -241,8 +242,9 @@ module _ {M : Type 1} (𝓤 : URA M) (H : Heap 𝓤) (A : Atoms 𝓤) (W : Given
         forks ! (load ! (from ! (stop !)) (look ! 14 refl))
         -- no warp waits
         (λ empty. assigns ! (of-opd ! (unit-lit !)) (from ! (stop !)) (init ! 26 refl (tt, tt)) $ returns-within ! Post refl (look ! 26 refl) $
-        move ! (26 ∷ 27 ∷ 24 ∷ 25 ∷ 22 ∷ 23 ∷ 20 ∷ 21 ∷ 18 ∷ 19 ∷ 16 ∷ 17 ∷ 14 ∷ 15 ∷ 12 ∷ 13 ∷ 10 ∷ 11 ∷ 8 ∷ 9 ∷ 6 ∷ 7 ∷ 4 ∷ 5 ∷ 2 ∷ 3 ∷ 0 ∷ 1 ∷ []) $
-        gone1 ! $ gone1 ! $ gone1 ! $ free1 ! $ free1 ! $ free1 ! $ gone1 ! $ free1 ! $ free1 ! $ free1 ! $ free1 ! $ free1 ! $ free1 ! $ free1 ! $ free0 ! $ by ! (exits-none (none-freed r ys (eqb→eq (r .waiting) 0 empty))))
+        move ! (26 ∷ 27 ∷ []) $ gone1 ! $ move ! (24 ∷ 25 ∷ []) $ gone1 ! $ move ! (22 ∷ 23 ∷ []) $ gone1 ! $ move ! (20 ∷ 21 ∷ []) $ free1 ! $ move ! (18 ∷ 19 ∷ []) $ free1 ! $ move ! (16 ∷ 17 ∷ []) $ free1 ! $
+        move ! (14 ∷ 15 ∷ []) $ gone1 ! $ move ! (12 ∷ 13 ∷ []) $ free1 ! $ move ! (10 ∷ 11 ∷ []) $ free1 ! $ move ! (8 ∷ 9 ∷ []) $ free1 ! $ move ! (6 ∷ 7 ∷ []) $ free1 ! $ move ! (4 ∷ 5 ∷ []) $ free1 ! $
+        move ! (2 ∷ 3 ∷ []) $ free1 ! $ move ! (0 ∷ 1 ∷ []) $ free1 ! $ free0 ! $ by ! (exits-none (none-freed r ys (eqb→eq (r .waiting) 0 empty))))
         -- some do
         (λ _. calls-exact ! (fmOf 𝓤 H (W .laws) 𝓣) (result-of.signature .params) u32 (result-of.ended .kept) (result-of.clauses 𝓤 H A mem run) result (LL.makes B.the-type B′.the-plain 𝓤 H A, tt) (vint w32) (uint-tells w32)
         (r, tt) (mach-r ∷ [], tt) (is-r, tt) tt (id⊢ 𝓤 _) (resultOf r) (λ r e. id⊢ 𝓤 _) (and-then ! (load ! (from ! (stop !)) (look ! 23 refl)) (no-more !)) (λ is-v.

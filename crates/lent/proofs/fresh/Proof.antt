@@ -180,8 +180,8 @@ module _ {M : Type 1} (𝓤 : URA M) (H : Heap 𝓤) (A : Atoms 𝓤) (W : Given
         (λ bad. calls-exact ! fm (fresh-turn.signature .params) N.the-row (fresh-turn.ended .kept) (fresh-turn.clauses 𝓤 H A at-mem run) (known .fresh-turn) (uint-makes 𝓤 H A W w8, (uint-makes 𝓤 H A W w8, tt)) mach-turn (LL.tells N.the-type N′.the-laws)
         (n, (w, tt)) (vint w8 n ∷ [], (vint w8 w ∷ [], tt)) (is-n, ((refl, w-fits), tt)) tt (id⊢ 𝓤 _) t (λ a _. says-too 𝓤 (goes .turn) a)
         (and-then ! (load ! (from ! (stop !)) (look ! 13 refl)) (and-then ! (load ! (from ! (stop !)) (look ! 15 refl)) (no-more !))) (λ is-t. land ! (from ! (stop !)) (init ! 20 refl (LL.lawful N.the-type N′.the-laws 𝓤 H A W .typed t _ is-t .0)) $
-        returns-within ! Post refl (look ! 20 refl) $ move ! (20 ∷ 21 ∷ 18 ∷ 19 ∷ 16 ∷ 17 ∷ 14 ∷ 15 ∷ 12 ∷ 13 ∷ 10 ∷ 11 ∷ 8 ∷ 9 ∷ 6 ∷ 7 ∷ 4 ∷ 5 ∷ 2 ∷ 3 ∷ 0 ∷ 1 ∷ []) $
-        gone1 ! $ gone1 ! $ gone1 ! $ gone1 ! $ gone1 ! $ gone1 ! $ gone1 ! $ free1 ! $ free1 ! $ free1 ! $ free1 ! $ free0 ! $ by ! (exits-refused bad is-t)))
+        returns-within ! Post refl (look ! 20 refl) $ move ! (20 ∷ 21 ∷ []) $ gone1 ! $ move ! (18 ∷ 19 ∷ []) $ gone1 ! $ move ! (16 ∷ 17 ∷ []) $ gone1 ! $ move ! (14 ∷ 15 ∷ []) $ gone1 ! $ move ! (12 ∷ 13 ∷ []) $ gone1 ! $ move ! (10 ∷ 11 ∷ []) $ gone1 ! $
+        move ! (8 ∷ 9 ∷ []) $ gone1 ! $ move ! (6 ∷ 7 ∷ []) $ free1 ! $ move ! (4 ∷ 5 ∷ []) $ free1 ! $ move ! (2 ∷ 3 ∷ []) $ free1 ! $ move ! (0 ∷ 1 ∷ []) $ free1 ! $ free0 ! $ by ! (exits-refused bad is-t)))
         -- made: both borrows are opened
         (λ ok. move ! (23 ∷ []) $ fsplit ! $ fsplit ! $ move ! (1 ∷ []) $ fsplit ! $ move ! (26 ∷ []) $ split ! $ move ! (2 ∷ 3 ∷ 0 ∷ []) $ opens-slice ! tt O.the-row ys b o $
         move ! (6 ∷ []) $ fsplit ! $ fsplit3 ! $ drop ! $ move ! (7 ∷ []) $ split ! $ move ! (2 ∷ 3 ∷ 0 ∷ []) $
@@ -202,8 +202,8 @@ module _ {M : Type 1} (𝓤 : URA M) (H : Heap 𝓤) (A : Atoms 𝓤) (W : Given
         -- both are closed
         move ! (2 ∷ []) $ drop ! $ owned ! T.the-row (Is T.the-row) (LL.makes T.the-type T′.the-plain 𝓤 H A) freshTally _ is-h $ move ! (2 ∷ 0 ∷ 3 ∷ 4 ∷ 5 ∷ []) $ closes ! tt T.the-row freshTally (mach-tally freshTally ∷ []) b′ o′ $
         move ! (3 ∷ 6 ∷ 7 ∷ 8 ∷ []) $ closes-slice ! tt O.the-row ys zs (length-replicate (length ys) dead) b o $
-        returns ! (look ! 29 refl) $ move ! (29 ∷ 30 ∷ 27 ∷ 28 ∷ 25 ∷ 26 ∷ 23 ∷ 24 ∷ 21 ∷ 22 ∷ 19 ∷ 20 ∷ 17 ∷ 18 ∷ 15 ∷ 16 ∷ 13 ∷ 14 ∷ 11 ∷ 12 ∷ 9 ∷ 10 ∷ []) $
-        gone1 ! $ gone1 ! $ gone1 ! $ gone1 ! $ gone1 ! $ gone1 ! $ gone1 ! $ gone1 ! $ gone1 ! $ gone1 ! $ gone1 ! $ free0 ! $ keep ! (0 ∷ 1 ∷ 2 ∷ 3 ∷ 4 ∷ 5 ∷ []) $ by ! (exits-made ok is-t))))))))))))))))))
+        returns ! (look ! 29 refl) $ move ! (29 ∷ 30 ∷ []) $ gone1 ! $ move ! (27 ∷ 28 ∷ []) $ gone1 ! $ move ! (25 ∷ 26 ∷ []) $ gone1 ! $ move ! (23 ∷ 24 ∷ []) $ gone1 ! $ move ! (21 ∷ 22 ∷ []) $ gone1 ! $ move ! (19 ∷ 20 ∷ []) $ gone1 ! $
+        move ! (17 ∷ 18 ∷ []) $ gone1 ! $ move ! (15 ∷ 16 ∷ []) $ gone1 ! $ move ! (13 ∷ 14 ∷ []) $ gone1 ! $ move ! (11 ∷ 12 ∷ []) $ gone1 ! $ move ! (9 ∷ 10 ∷ []) $ gone1 ! $ free0 ! $ keep ! (0 ∷ 1 ∷ 2 ∷ 3 ∷ 4 ∷ 5 ∷ []) $ by ! (exits-made ok is-t))))))))))))))))))
 
 module _ {M : Type 1} (𝓤 : URA M) (H : Heap 𝓤) (A : Atoms 𝓤) (W : Given 𝓤 H A) (mem : Memory → SProp 𝓤) (run : Routine → Fun 𝓤) (𝓣 : Tables 𝓤 H) where
   fresh-walks : Known 𝓤 H A mem run (𝓣 .C) → Walks 𝓤 H A fresh.ended stayed (WpFn 𝓤 H (𝓣 .C) (𝓣 .Λ) code.function) (fresh.clauses 𝓤 H A mem run)

@@ -101,7 +101,7 @@ module _ {M : Type 1} (𝓤 : URA M) (H : Heap 𝓤) (A : Atoms 𝓤) (W : Given
         (row O.the-row q′ ys b o) (rows-shared 𝓤 H A W O.the-row b o q′ ys room) (λ _. tt) (λ _. tt) (λ _. tt) (λ _ _. tt) (λ _ _. id⊢ 𝓤 _) (soundObjects ys) (λ _ _ r _. r ≡ soundObjects ys) (λ _ _ r ws. id⊢ 𝓤 _) (λ α δ r w e. (e, rows-shared-back 𝓤 H A W O.the-row b o q′ ys room yes α δ w))
         (λ _ _. and-then ! (load ! (from ! (stop !)) (look ! 12 refl)) (no-more !)) (λ _. land ! (from ! (stop !)) (init ! 7 refl (tt, tt)) $
         assigns ! (bin ! (load ! (from ! (stop !)) (look ! 9 refl)) (load ! (from ! (stop !)) (look ! 7 refl)) tt) (from ! (stop !)) (init ! 15 refl (tt, tt)) $
-        shuts-slice ! tt O.the-row q′ ys b o $ returns ! (look ! 14 refl) $ move ! (14 ∷ 15 ∷ 12 ∷ 13 ∷ 10 ∷ 11 ∷ 8 ∷ 9 ∷ 6 ∷ 7 ∷ []) $ gone1 ! $ gone1 ! $ gone1 ! $ gone1 ! $ gone1 ! $ free0 ! $
+        shuts-slice ! tt O.the-row q′ ys b o $ returns ! (look ! 14 refl) $ move ! (14 ∷ 15 ∷ []) $ gone1 ! $ move ! (12 ∷ 13 ∷ []) $ gone1 ! $ move ! (10 ∷ 11 ∷ []) $ gone1 ! $ move ! (8 ∷ 9 ∷ []) $ gone1 ! $ move ! (6 ∷ 7 ∷ []) $ gone1 ! $ free0 ! $
         move ! (3 ∷ 1 ∷ []) $ fjoin ! $ move ! (3 ∷ 0 ∷ []) $ fjoin ! $ keep ! (1 ∷ 0 ∷ []) $ by ! exits))))))))
 
 module _ {M : Type 1} (𝓤 : URA M) (H : Heap 𝓤) (A : Atoms 𝓤) (W : Given 𝓤 H A) (mem : Memory → SProp 𝓤) (run : Routine → Fun 𝓤) (𝓣 : Tables 𝓤 H) where

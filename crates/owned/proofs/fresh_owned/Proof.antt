@@ -24,10 +24,10 @@ returns : tie.Need-returns
 returns c =
     c .bundle .ensures
     ∙ rw (
-      c .before .fresh-turn .ensures,
-      c .before .before .fresh-tally .ensures,
-      c .before .before .before .dead .ensures,
-      c .before .before .before .before .fresh-refusal .ensures,
+      c .before .before .fresh-turn .ensures,
+      c .before .before .before .fresh-tally .ensures,
+      c .before .before .before .before .dead .ensures,
+      c .before .before .before .before .before .fresh-refusal .ensures,
     )
 
 pub fresh-owned-spec : {M : Type 1} → statement M

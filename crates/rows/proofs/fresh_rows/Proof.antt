@@ -145,7 +145,8 @@ module _ {M : Type 1} (𝓤 : URA M) (H : Heap 𝓤) (A : Atoms 𝓤) (W : Given
           assigns ! (of-opd ! (unit-lit !)) (from ! (stop !)) (init ! 8 refl (tt, tt)) $
           rewrite ! 0 (λ (k : ℕ). ‵ (row O.the-row fullShare (deadTo ys k) b o)) (all n) refl $
           move ! (0 ∷ 9 ∷ 10 ∷ 11 ∷ []) $ closes-slice ! tt O.the-row ys zs (length-dead ys n) b o $
-          returns ! (look ! 10 refl) $ move ! (10 ∷ 11 ∷ 9 ∷ 12 ∷ 8 ∷ 13 ∷ 7 ∷ 14 ∷ 3 ∷ 15 ∷ 4 ∷ 16 ∷ 5 ∷ 17 ∷ 6 ∷ 18 ∷ []) $ gone1 ! $ gone1 ! $ gone1 ! $ gone1 ! $ gone1 ! $ gone1 ! $ free1 ! $ free1 ! $ free0 ! $
+          returns ! (look ! 10 refl) $ move ! (10 ∷ 11 ∷ []) $ gone1 ! $ move ! (9 ∷ 10 ∷ []) $ gone1 ! $ move ! (8 ∷ 9 ∷ []) $ gone1 ! $ move ! (7 ∷ 8 ∷ []) $ gone1 ! $ move ! (3 ∷ 7 ∷ []) $ gone1 ! $ move ! (3 ∷ 6 ∷ []) $ gone1 ! $
+          move ! (3 ∷ 5 ∷ []) $ free1 ! $ move ! (3 ∷ 4 ∷ []) $ free1 ! $ free0 ! $
           by ! exits)
         where
           all : (m : ℕ) → m - 0 ≡ m

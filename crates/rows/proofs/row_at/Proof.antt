@@ -92,7 +92,8 @@ module _ {M : Type 1} (𝓤 : URA M) (H : Heap 𝓤) (A : Atoms 𝓤) (W : Given
         -- past the end
         (λ out. calls-exact ! fm (dead-row.signature .params) O.the-row (dead-row.ended .kept) (dead-row.clauses 𝓤 H A mem run) known tt mach (LL.tells O.the-type O′.the-laws) tt tt tt tt (id⊢ 𝓤 _) dead (λ r e. id⊢ 𝓤 _) (no-more !) (λ is.
         land ! (from ! (stop !)) (init ! 12 refl (LL.lawful O.the-type O′.the-laws 𝓤 H A W .typed dead _ is .0)) $
-        returns-within ! Post refl (look ! 12 refl) $ move ! (12 ∷ 13 ∷ 10 ∷ 11 ∷ 8 ∷ 9 ∷ 6 ∷ 7 ∷ 4 ∷ 5 ∷ 2 ∷ 3 ∷ 0 ∷ 1 ∷ []) $ gone1 ! $ gone1 ! $ gone1 ! $ gone1 ! $ gone1 ! $ free1 ! $ free1 ! $ free0 ! $
+        returns-within ! Post refl (look ! 12 refl) $ move ! (12 ∷ 13 ∷ []) $ gone1 ! $ move ! (10 ∷ 11 ∷ []) $ gone1 ! $ move ! (8 ∷ 9 ∷ []) $ gone1 ! $ move ! (6 ∷ 7 ∷ []) $ gone1 ! $ move ! (4 ∷ 5 ∷ []) $ gone1 ! $ move ! (2 ∷ 3 ∷ []) $ free1 ! $
+        move ! (0 ∷ 1 ∷ []) $ free1 ! $ free0 ! $
         by ! (exits dead (sym (List·getD-eq-default ys dead {n = i} (leb→le (length ys) i out))) is)))
         -- within
         (λ no. assigns ! (bin ! (load ! (from ! (stop !)) (look ! 8 refl)) (lit ! tt) (record { fits = place-fits (nleb→lt (length ys) i no) })) (from ! (stop !)) (store ! 6 refl (tt, record { fits = place-fits (nleb→lt (length ys) i no) })) $
@@ -105,7 +106,8 @@ module _ {M : Type 1} (𝓤 : URA M) (H : Heap 𝓤) (A : Atoms 𝓤) (W : Given
         assigns ! (of-opd ! (load ! (from ! (hop ! (look ! 11 refl) (stop !))) (look-raw ! 0 refl))) (from ! (stop !)) (init ! 9 refl (LL.lawful O.the-type O′.the-laws 𝓤 H A W .typed (getD ys i dead) _ is .0)) $
         assigns ! (of-opd ! (load ! (from ! (stop !)) (look ! 9 refl))) (from ! (stop !)) (init ! 21 refl (LL.lawful O.the-type O′.the-laws 𝓤 H A W .typed (getD ys i dead) _ is .0)) $
         elem-back ! O.the-row q′ ys i dead (mach (getD ys i dead) ∷ []) b o (nleb→lt (length ys) i no) $ shuts-slice ! tt O.the-row q′ ys b o $
-        returns ! (look ! 18 refl) $ move ! (18 ∷ 19 ∷ 16 ∷ 17 ∷ 14 ∷ 15 ∷ 12 ∷ 13 ∷ 10 ∷ 11 ∷ 8 ∷ 9 ∷ 6 ∷ 7 ∷ []) $ gone1 ! $ gone1 ! $ gone1 ! $ gone1 ! $ gone1 ! $ gone1 ! $ gone1 ! $ free0 ! $
+        returns ! (look ! 18 refl) $ move ! (18 ∷ 19 ∷ []) $ gone1 ! $ move ! (16 ∷ 17 ∷ []) $ gone1 ! $ move ! (14 ∷ 15 ∷ []) $ gone1 ! $ move ! (12 ∷ 13 ∷ []) $ gone1 ! $ move ! (10 ∷ 11 ∷ []) $ gone1 ! $ move ! (8 ∷ 9 ∷ []) $ gone1 ! $
+        move ! (6 ∷ 7 ∷ []) $ gone1 ! $ free0 ! $
         move ! (3 ∷ 1 ∷ []) $ fjoin ! $ move ! (3 ∷ 0 ∷ []) $ fjoin ! $ move ! (0 ∷ 3 ∷ []) $ fjoin ! $ move ! (1 ∷ 2 ∷ []) $ join ! $ by ! (exits (getD ys i dead) refl is)))))))))))
       where
         place-fits : i < length ys → i * 24 < 2 ^ 64

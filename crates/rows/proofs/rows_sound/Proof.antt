@@ -143,8 +143,8 @@ module _ {M : Type 1} (𝓤 : URA M) (H : Heap 𝓤) (A : Atoms 𝓤) (W : Given
           assigns ! (of-opd ! (true-lit !)) (from ! (stop !)) (init ! 8 refl (tt, tt)) $
           move ! (0 ∷ 11 ∷ []) $ shuts-slice ! tt O.the-row q′ ys b o $
           -- [the token; _2; _5; _6; _7; _8; _9; _1; _0; _3; _4; the fractured borrow; res; the slice's fact; and that each local dies]
-          returns ! (look ! 8 refl) $ move ! (8 ∷ 14 ∷ 7 ∷ 15 ∷ 1 ∷ 16 ∷ 9 ∷ 17 ∷ 10 ∷ 18 ∷ 2 ∷ 19 ∷ 3 ∷ 20 ∷ 4 ∷ 21 ∷ 5 ∷ 22 ∷ 6 ∷ 23 ∷ []) $
-          gone1 ! $ gone1 ! $ gone1 ! $ free1 ! $ free1 ! $ gone1 ! $ free1 ! $ free1 ! $ free1 ! $ free1 ! $ free0 ! $
+          returns ! (look ! 8 refl) $ move ! (8 ∷ 14 ∷ []) $ gone1 ! $ move ! (7 ∷ 13 ∷ []) $ gone1 ! $ move ! (1 ∷ 12 ∷ []) $ gone1 ! $ move ! (6 ∷ 11 ∷ []) $ free1 ! $ move ! (6 ∷ 10 ∷ []) $ free1 ! $ move ! (1 ∷ 9 ∷ []) $ gone1 ! $
+          move ! (1 ∷ 8 ∷ []) $ free1 ! $ move ! (1 ∷ 7 ∷ []) $ free1 ! $ move ! (1 ∷ 6 ∷ []) $ free1 ! $ move ! (1 ∷ 5 ∷ []) $ free1 ! $ free0 ! $
           move ! (2 ∷ 1 ∷ []) $ fjoin ! $ move ! (2 ∷ 0 ∷ []) $ fjoin ! $ keep ! (1 ∷ 0 ∷ []) $ by ! (exits true (every-row ys len good))))
       turn (suc t) =
           fltL ! (λ less. feqL ! (λ good.
@@ -166,8 +166,8 @@ module _ {M : Type 1} (𝓤 : URA M) (H : Heap 𝓤) (A : Atoms 𝓤) (W : Given
           -- the row is not sound
           (λ bad. assigns ! (of-opd ! (false-lit !)) (from ! (stop !)) (init ! 8 refl (tt, tt)) $
           move ! (0 ∷ 11 ∷ []) $ shuts-slice ! tt O.the-row q′ ys b o $
-          returns-within ! Post refl (look ! 8 refl) $ move ! (8 ∷ 14 ∷ 7 ∷ 15 ∷ 1 ∷ 16 ∷ 9 ∷ 17 ∷ 10 ∷ 18 ∷ 2 ∷ 19 ∷ 3 ∷ 20 ∷ 4 ∷ 21 ∷ 5 ∷ 22 ∷ 6 ∷ 23 ∷ []) $
-          gone1 ! $ gone1 ! $ gone1 ! $ free1 ! $ free1 ! $ gone1 ! $ gone1 ! $ gone1 ! $ gone1 ! $ gone1 ! $ free0 ! $
+          returns-within ! Post refl (look ! 8 refl) $ move ! (8 ∷ 14 ∷ []) $ gone1 ! $ move ! (7 ∷ 13 ∷ []) $ gone1 ! $ move ! (1 ∷ 12 ∷ []) $ gone1 ! $ move ! (6 ∷ 11 ∷ []) $ free1 ! $ move ! (6 ∷ 10 ∷ []) $ free1 ! $ move ! (1 ∷ 9 ∷ []) $ gone1 ! $
+          move ! (1 ∷ 8 ∷ []) $ gone1 ! $ move ! (1 ∷ 7 ∷ []) $ gone1 ! $ move ! (1 ∷ 6 ∷ []) $ gone1 ! $ move ! (1 ∷ 5 ∷ []) $ gone1 ! $ free0 ! $
           move ! (2 ∷ 1 ∷ []) $ fjoin ! $ move ! (2 ∷ 0 ∷ []) $ fjoin ! $ keep ! (1 ∷ 0 ∷ []) $ by ! (exits false (unsound-row ys (slots - suc t) (within less) bad)))
           -- it is
           (λ ok. assigns-last ! (bin ! (load ! (from ! (stop !)) (look ! 1 refl)) (lit ! tt) (record { fits = next-fits less })) (from ! (stop !)) (store ! 1 refl (tt, record { fits = next-fits less })) $
@@ -206,8 +206,8 @@ module _ {M : Type 1} (𝓤 : URA M) (H : Heap 𝓤) (A : Atoms 𝓤) (W : Given
         forks ! (load ! (from ! (stop !)) (look ! 10 refl))
         -- another length
         (λ bad. assigns ! (of-opd ! (false-lit !)) (from ! (stop !)) (init ! 18 refl (tt, tt)) $
-        returns-within ! Post refl (look ! 18 refl) $ move ! (18 ∷ 19 ∷ 16 ∷ 17 ∷ 14 ∷ 15 ∷ 12 ∷ 13 ∷ 10 ∷ 11 ∷ 8 ∷ 9 ∷ 6 ∷ 7 ∷ 4 ∷ 5 ∷ 2 ∷ 3 ∷ 0 ∷ 1 ∷ []) $
-        gone1 ! $ gone1 ! $ free1 ! $ gone1 ! $ gone1 ! $ free1 ! $ free1 ! $ free1 ! $ free1 ! $ free1 ! $ free0 ! $
+        returns-within ! Post refl (look ! 18 refl) $ move ! (18 ∷ 19 ∷ []) $ gone1 ! $ move ! (16 ∷ 17 ∷ []) $ gone1 ! $ move ! (14 ∷ 15 ∷ []) $ free1 ! $ move ! (12 ∷ 13 ∷ []) $ gone1 ! $ move ! (10 ∷ 11 ∷ []) $ gone1 ! $ move ! (8 ∷ 9 ∷ []) $ free1 ! $
+        move ! (6 ∷ 7 ∷ []) $ free1 ! $ move ! (4 ∷ 5 ∷ []) $ free1 ! $ move ! (2 ∷ 3 ∷ []) $ free1 ! $ move ! (0 ∷ 1 ∷ []) $ free1 ! $ free0 ! $
         split ! $ move ! (2 ∷ []) $ fsplit ! $ keep ! (2 ∷ 0 ∷ []) $ by ! (exits false (wrong-length ys bad)))
         -- 64 rows
         (λ ok. assigns ! (of-opd ! (lit ! tt)) (from ! (stop !)) (init ! 14 refl (tt, record { fits = lit< tt })) $ forget ! 12 refl $ forget ! 10 refl $

@@ -1,4 +1,4 @@
--- `text::lay_turns` meets its contract: a walk of its MIR, by hand. The trace is looked into and the buffer opened once, before the loop. A turn lends a share of the trace to `look`, the block, the list and the tally, which lie in three locals, to `lent_all::step`, and the buffer to `lay_line`.
+-- `text::lay_turns` meets its contract: a walk of its MIR, by hand. The trace is looked into and the buffer opened once, before the loop. A turn lends a share of the trace to `look`, the block, the list and the tally, which lie in three locals, to `lent_step::step`, and the buffer to `lay_line`.
 -- The invariant: what is left to lay, laid, gives what all of it gives. Assumes nothing.
 use mathlib.Core.Path.{_≡_, refl, sym, _∙_, ap, subst}
 use mathlib.Core.Bool.{true, false, not}
@@ -71,13 +71,13 @@ use Rattle.tables.specs.declared.Tally.{Tally}
 use Rattle.tables.proofs.Tally as T
 use Rattle.tables.proofs.Tally.Laws as T′
 use Rattle.rows.proofs.Walk.{is-false, forks, gone1, concluded, over}
-use Rattle.lent.specs.Entries.{stateOf, SteppedIn}
+use Rattle.lent.specs.Entries.{stateOf, Stepped}
 use Rattle.rows.proofs.Lend.{Back, rows-shared, rows-shared-back, rows-lent, rows-lent-back, record-lent, record-lent-back, calls-lending}
 use Rattle.lent.proofs.Spelt.{R, vals-R, tells-R, spelt-R, spelt-B, spelt-T, spelt-E}
-use Rattle.lent_all.proofs.step as step
-use Rattle.lent_all.proofs.step.Symbol as step-def
-use Rattle.lent_all.proofs.step.Symbol.{name as #lent-all·step}
-use Rattle.lent_all.proofs.step.Met as step-thm
+use Rattle.lent_step.proofs.step as step
+use Rattle.lent_step.proofs.step.Symbol as step-def
+use Rattle.lent_step.proofs.step.Symbol.{name as #lent-step·step}
+use Rattle.lent_step.proofs.step.Met as step-thm
 use Rattle.lines.specs.Lines.{lineOf}
 use Rattle.runs.specs.Runs.{numberIn}
 use Rattle.looking.specs.declared.Laying.{Laying}
@@ -135,7 +135,7 @@ module _ {M : Type 1} (𝓤 : URA M) (H : Heap 𝓤) (A : Atoms 𝓤) (at-mem : 
 
 record Known {M : Type 1} (𝓤 : URA M) (H : Heap 𝓤) (A : Atoms 𝓤) (at-mem : Memory → SProp 𝓤) (run : Routine → Fun 𝓤) (C : Calls 𝓤 H) : Type 2 where
   look : Triple 𝓤 (C #looking·look) (LookOf 𝓤 H A at-mem run)
-  step : Triple 𝓤 (C #lent-all·step) (StepOf 𝓤 H A at-mem run)
+  step : Triple 𝓤 (C #lent-step·step) (StepOf 𝓤 H A at-mem run)
   line : Triple 𝓤 (C #text·lay-line) (LineOf 𝓤 H A at-mem run)
 
 -- what the locals hold between two turns
@@ -282,7 +282,7 @@ module _ {M : Type 1} (𝓤 : URA M) (H : Heap 𝓤) (A : Atoms 𝓤) (W : Given
           nothing ! $ move ! (5 ∷ 0 ∷ []) $ join ! $ move ! (5 ∷ 0 ∷ []) $ join ! $ move ! (5 ∷ 0 ∷ []) $ join ! $ join ! $ nothing ! $ move ! (1 ∷ 0 ∷ []) $ join ! $ use1 W (raw (StepOf 𝓤 H A at-mem run .pre (to-step ν δ ν′ δ′ ν″ δ″))) (id⊢ 𝓤 _) $
           calls-at ! fm (StepOf 𝓤 H A at-mem run) (known .step) (to-step ν δ ν′ δ′ ν″ δ″) (and-then ! (load ! (from ! (stop !)) (look ! 10 refl)) (and-then ! (load ! (from ! (stop !)) (look ! 12 refl)) (and-then ! (load ! (from ! (stop !)) (look ! 13 refl)) (and-then ! (load ! (from ! (fld ! step-at (stop !))) (look-in ! 6 (sub ! 5 step-at (whole !)))) (no-more !))))) (λ v.
           use1 W (later (some (λ (r : Verdict). ((‵ (flft (ν ∷ []) fullShare) ⊛ ‵ (flft (ν′ ∷ []) fullShare) ⊛ ‵ (flft (ν″ ∷ []) fullShare) ⊛ ‵ ftrue) ⊛ ‵ (E.the-row .own r (v ∷ []))) ⊛ some (λ (ws : Lasts step.ended (ν ∷ [], (ν′ ∷ [], (ν″ ∷ [], tt))) (to-step ν δ ν′ δ′ ν″ δ″ .0 .3)).
-          ‵ (lasts step.ended (ν ∷ [], (ν′ ∷ [], (ν″ ∷ [], tt))) (to-step ν δ ν′ δ′ ν″ δ″ .0 .3) ws) ⊛ raw (fact 𝓤 (SteppedIn (stateOf (t .block) (t .objects) (t .tally)) (l′ .step) r (ws .0) (ws .1 .0) (ws .1 .1 .0))))))) (id⊢ 𝓤 _) $ await ! tt $ pick ! (λ r. split ! $ move ! (1 ∷ []) $ pick ! (λ ws. split ! $ move ! (1 ∷ []) $ heard ! (SteppedIn (stateOf (t .block) (t .objects) (t .tally)) (l′ .step) r (ws .0) (ws .1 .0) (ws .1 .1 .0)) (λ e.
+          ‵ (lasts step.ended (ν ∷ [], (ν′ ∷ [], (ν″ ∷ [], tt))) (to-step ν δ ν′ δ′ ν″ δ″ .0 .3) ws) ⊛ raw (fact 𝓤 (Stepped (stateOf (t .block) (t .objects) (t .tally)) (l′ .step) r (ws .0) (ws .1 .0) (ws .1 .1 .0))))))) (id⊢ 𝓤 _) $ await ! tt $ pick ! (λ r. split ! $ move ! (1 ∷ []) $ pick ! (λ ws. split ! $ move ! (1 ∷ []) $ heard ! (Stepped (stateOf (t .block) (t .objects) (t .tally)) (l′ .step) r (ws .0) (ws .1 .0) (ws .1 .1 .0)) (λ e.
           -- the lifetimes end, and the tally, the block and the rows come back
           fsplit ! $ move ! (1 ∷ []) $ fsplit ! $ move ! (1 ∷ []) $ fsplit ! $ move ! (1 ∷ []) $ drop ! $ move ! (3 ∷ []) $ split ! $ move ! (1 ∷ []) $ peeks ! E.the-row (Is E.the-row) (shows 𝓤 H A E.the-row) r (v ∷ []) (λ is. drop ! $
           split ! $ lft-end ! tt $ move ! (1 ∷ []) $ split ! $ lft-end ! tt $ move ! (1 ∷ []) $ split ! $ lft-end ! tt $
@@ -350,7 +350,7 @@ module _ {M : Type 1} (𝓤 : URA M) (H : Heap 𝓤) (A : Atoms 𝓤) (W : Given
           is-step : Is L.the-row l′ (LL.vals L.the-type L′.the-laws l′) → Is S.the-row (l′ .step) (LL.vals S.the-type S′.the-laws (l′ .step))
           is-step is = LL.owed L.the-type L′.the-laws l′ _ is .1 .1 .1 .1 .1 .0
 
-          -- what the triple of `lent_all::step` binds outside: the block at l₇ lent for ν under δ, the rows at l₈ for ν′ under δ′, and the tally at l₉ for ν″ under δ″
+          -- what the triple of `lent_step::step` binds outside: the block at l₇ lent for ν under δ, the rows at l₈ for ν′ under δ′, and the tally at l₉ for ν″ under δ″
           to-step : ℕ → GName → ℕ → GName → ℕ → GName → StepOf 𝓤 H A at-mem run .Ghost
           to-step ν δ ν′ δ′ ν″ δ″ = (
             (
@@ -407,6 +407,6 @@ lay-turns-spec 𝓤 H 𝓜 𝓖 𝓡 =
     (lay-turns.clauses 𝓤 H (𝓖 .A) (𝓜 .mem) (𝓡 .run)) #text·lay-turns code.function (code.unfolded 𝓤 H 𝓜 𝓡)
     (lay-turns-walks 𝓤 H (𝓖 .A) (givenOf 𝓤 H 𝓜 𝓖) (𝓜 .mem) (𝓡 .run) (over 𝓤 H 𝓜 𝓖 𝓡 code.env) (record {
       look = cited 𝓤 H (LookOf 𝓤 H (𝓖 .A) (𝓜 .mem) (𝓡 .run)) 𝓜 𝓡 code.env #looking·look look-def.routine code.calls-looking·look (look-thm.met 𝓤 H 𝓜 𝓖 𝓡);
-      step = cited 𝓤 H (StepOf 𝓤 H (𝓖 .A) (𝓜 .mem) (𝓡 .run)) 𝓜 𝓡 code.env #lent-all·step step-def.routine code.calls-lent-all·step (step-thm.met 𝓤 H 𝓜 𝓖 𝓡);
+      step = cited 𝓤 H (StepOf 𝓤 H (𝓖 .A) (𝓜 .mem) (𝓡 .run)) 𝓜 𝓡 code.env #lent-step·step step-def.routine code.calls-lent-step·step (step-thm.met 𝓤 H 𝓜 𝓖 𝓡);
       line = cited 𝓤 H (LineOf 𝓤 H (𝓖 .A) (𝓜 .mem) (𝓡 .run)) 𝓜 𝓡 code.env #text·lay-line lay-line-def.routine code.calls-text·lay-line (lay-line-thm.met 𝓤 H 𝓜 𝓖 𝓡);
     }))

@@ -1,4 +1,4 @@
--- `lent_all::step` meets its contract: a walk of its MIR, by hand. The three borrows are opened at the start, so that the block, the rows and the tally lie in memory; the block is copied for the decision, and each call is lent what it needs for the call alone (`Lend`); the borrows are closed at the end.
+-- `lent_step::step` meets its contract: a walk of its MIR, by hand. The three borrows are opened at the start, so that the block, the rows and the tally lie in memory; the block is copied for the decision, and each call is lent what it needs for the call alone (`Lend`); the borrows are closed at the end.
 -- Assumes nothing.
 use mathlib.Core.Path.{_≡_, refl, sym, _∙_, ap, subst}
 use mathlib.Core.Bool.{Bool, _&&_}
@@ -95,16 +95,16 @@ use Rattle.rows.proofs.count as count
 use Rattle.rows.proofs.count.Symbol as count-def
 use Rattle.rows.proofs.count.Symbol.{name as #rows·count}
 use Rattle.rows.proofs.count.Met as count-thm
-use Rattle.lent.specs.Entries.{tablesOf as tables-of, stateOf, SteppedIn}
+use Rattle.lent.specs.Entries.{tablesOf as tables-of, stateOf, Stepped}
 use Rattle.rows.proofs.Lend.{Back, part-shut, rows-shared, rows-shared-back, rows-lent, rows-lent-back, record-lent, record-lent-back, calls-lending}
 use Rattle.lent.proofs.slot as slot
 use Rattle.lent.proofs.slot.Symbol as slot-def
 use Rattle.lent.proofs.slot.Symbol.{name as #lent·slot}
 use Rattle.lent.proofs.slot.Met as slot-thm
-use Rattle.lent_all.proofs.step.Key.{name as #lent-all·step}
-use Rattle.lent_all.proofs.step as step
-use Rattle.lent_all.proofs.step.Statement as stated
-use Rattle.lent_all.proofs.step.Code as code
+use Rattle.lent_step.proofs.step.Key.{name as #lent-step·step}
+use Rattle.lent_step.proofs.step as step
+use Rattle.lent_step.proofs.step.Statement as stated
+use Rattle.lent_step.proofs.step.Code as code
 
 abbrev stayed : Stays (step.ended .signature .params) (step.ended .kept)
 stayed = (stay-ref (0 ∷ []) tt (plain (λ _. B.the-row)), (stay-slice (1 ∷ []) tt (plain (λ _. O.the-row)), (stay-ref (2 ∷ []) tt (plain (λ _. T.the-row)), (stay-none (λ _. S.the-row) yes, tt))))
@@ -165,7 +165,7 @@ over-whole : (d : Block) (ys : List Object) (s : Step) (f : Bool) (i : ℕ) (e :
 over-whole d ys s f i e u goes left = rw (left, goes .fine, goes .row, goes .slot)
 
 stepped : (d : Block) (ys : List Object) (h : Tally) (s : Step) (f : Bool) (i : ℕ) (e : Object) (u : Decided) → Goes d ys s f i e → Decides d s f e u
-    → SteppedIn (stateOf d ys h) s (u .verdict) (changed d (u .change)) (set ys i (u .object)) (tallied h (u .verdict))
+    → Stepped (stateOf d ys h) s (u .verdict) (changed d (u .change)) (set ys i (u .object)) (tallied h (u .verdict))
 stepped d ys h s f i e u goes left =
     let all = over-whole d ys s f i e u goes left in
     record {
@@ -280,8 +280,10 @@ module _ {M : Type 1} (𝓤 : URA M) (H : Heap 𝓤) (A : Atoms 𝓤) (W : Given
         -- the borrows are closed
         move ! (0 ∷ 12 ∷ 13 ∷ 14 ∷ []) $ close-ref ! tt (mem B.the-row) (d′ u) {b = b} {o = o} $ move ! (3 ∷ 5 ∷ 6 ∷ 7 ∷ []) $ close-ref ! tt (mem T.the-row) (h′ u) {b = b″} {o = o″} $
         move ! (6 ∷ 9 ∷ 10 ∷ 11 ∷ []) $ closes-slice ! tt O.the-row ys (zs u) (length-set ys i (u .object)) b′ o′ $
-        returns ! (look ! 48 refl) $ move ! (48 ∷ 49 ∷ 46 ∷ 47 ∷ 44 ∷ 45 ∷ 42 ∷ 43 ∷ 40 ∷ 41 ∷ 38 ∷ 39 ∷ 36 ∷ 37 ∷ 34 ∷ 35 ∷ 32 ∷ 33 ∷ 30 ∷ 31 ∷ 28 ∷ 29 ∷ 26 ∷ 27 ∷ 24 ∷ 25 ∷ 22 ∷ 23 ∷ 20 ∷ 21 ∷ 18 ∷ 19 ∷ 16 ∷ 17 ∷ 14 ∷ 15 ∷ 12 ∷ 13 ∷ []) $
-        gone1 ! $ gone1 ! $ gone1 ! $ gone1 ! $ gone1 ! $ gone1 ! $ gone1 ! $ gone1 ! $ gone1 ! $ gone1 ! $ gone1 ! $ gone1 ! $ gone1 ! $ gone1 ! $ gone1 ! $ gone1 ! $ gone1 ! $ gone1 ! $ gone1 ! $ free0 ! $
+        returns ! (look ! 48 refl) $ move ! (48 ∷ 49 ∷ []) $ gone1 ! $ move ! (46 ∷ 47 ∷ []) $ gone1 ! $ move ! (44 ∷ 45 ∷ []) $ gone1 ! $ move ! (42 ∷ 43 ∷ []) $ gone1 ! $ move ! (40 ∷ 41 ∷ []) $ gone1 ! $ move ! (38 ∷ 39 ∷ []) $ gone1 ! $
+        move ! (36 ∷ 37 ∷ []) $ gone1 ! $ move ! (34 ∷ 35 ∷ []) $ gone1 ! $ move ! (32 ∷ 33 ∷ []) $ gone1 ! $ move ! (30 ∷ 31 ∷ []) $ gone1 ! $ move ! (28 ∷ 29 ∷ []) $ gone1 ! $ move ! (26 ∷ 27 ∷ []) $ gone1 ! $
+        move ! (24 ∷ 25 ∷ []) $ gone1 ! $ move ! (22 ∷ 23 ∷ []) $ gone1 ! $ move ! (20 ∷ 21 ∷ []) $ gone1 ! $ move ! (18 ∷ 19 ∷ []) $ gone1 ! $ move ! (16 ∷ 17 ∷ []) $ gone1 ! $ move ! (14 ∷ 15 ∷ []) $ gone1 ! $
+        move ! (12 ∷ 13 ∷ []) $ gone1 ! $ free0 ! $
         keep ! (0 ∷ 1 ∷ 2 ∷ 3 ∷ 4 ∷ 5 ∷ 6 ∷ 7 ∷ 8 ∷ []) $ by ! (exits u left (is-verdict u is-u))))))))))))))))))))))))))))))
       where
         is-verdict : (u : Decided) → Is U.the-row u (LL.vals U.the-type U′.the-laws u) → Is E.the-row (u .verdict) (LE.vals E.the-type E′.the-laws (u .verdict))
@@ -306,7 +308,7 @@ unfolding code.routine tablesOf
 step-spec 𝓤 H 𝓜 𝓖 𝓡 =
     concluded 𝓤 H 𝓜 𝓖 𝓡 code.env step.ended stayed
     (goes-ref 𝓤 H (𝓖 .A) (givenOf 𝓤 H 𝓜 𝓖) 3 0 tt (plain (λ _. B.the-row)), (goes-slice 𝓤 H (𝓖 .A) (givenOf 𝓤 H 𝓜 𝓖) 3 1 tt (plain (λ _. O.the-row)), (goes-ref 𝓤 H (𝓖 .A) (givenOf 𝓤 H 𝓜 𝓖) 3 2 tt (plain (λ _. T.the-row)), (goes-none 𝓤 H (𝓖 .A) (givenOf 𝓤 H 𝓜 𝓖) 3 (λ _. S.the-row) yes (λ κs x f. refl), tt))))
-    (step.clauses 𝓤 H (𝓖 .A) (𝓜 .mem) (𝓡 .run)) #lent-all·step code.function (code.unfolded 𝓤 H 𝓜 𝓡)
+    (step.clauses 𝓤 H (𝓖 .A) (𝓜 .mem) (𝓡 .run)) #lent-step·step code.function (code.unfolded 𝓤 H 𝓜 𝓡)
     (step-walks 𝓤 H (𝓖 .A) (givenOf 𝓤 H 𝓜 𝓖) (𝓜 .mem) (𝓡 .run) (over 𝓤 H 𝓜 𝓖 𝓡 code.env) (record {
       rows-sound = cited 𝓤 H (RowsSound 𝓤 H (𝓖 .A) (𝓜 .mem) (𝓡 .run)) 𝓜 𝓡 code.env #rows·rows-sound rows-sound-def.routine code.calls-rows·rows-sound (rows-sound-thm.met 𝓤 H 𝓜 𝓖 𝓡);
       slot = cited 𝓤 H (Slot 𝓤 H (𝓖 .A) (𝓜 .mem) (𝓡 .run)) 𝓜 𝓡 code.env #lent·slot slot-def.routine code.calls-lent·slot (slot-thm.met 𝓤 H 𝓜 𝓖 𝓡);

@@ -4,11 +4,11 @@ use block::Verdict;
 use object::Object;
 use steps::Step;
 use tables::Tally;
-ghost use Rattle.lent.specs.Entries.{stateOf, SteppedIn};
+ghost use Rattle.lent.specs.Entries.{stateOf, Stepped};
 
 // One step: refused, it leaves block and list; either way the tally counts it. The block is copied only for the decision.
 pub fn step(b: &mut Block, objects: &mut [Object], tally: &mut Tally, s: Step) -> Verdict
-    ensures { λ r. ⌜ SteppedIn (stateOf (now (b .entry)) (now (objects .entry)) (now (tally .entry))) s r (now (b .exit)) (now (objects .exit)) (now (tally .exit)) ⌝ }
+    ensures { λ r. ⌜ Stepped (stateOf (now (b .entry)) (now (objects .entry)) (now (tally .entry))) s r (now (b .exit)) (now (objects .exit)) (now (tally .exit)) ⌝ }
 {
     let fine = rows::rows_sound(objects);
     let at = lent::slot(s);
