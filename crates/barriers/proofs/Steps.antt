@@ -1,15 +1,16 @@
--- Laws of the steps: which line refuses an arrival, and the ends of an arrival and of an exit.
+-- Laws of the steps: which line refuses an arrival, who is freed, and the ends of an arrival and of an exit.
 -- Assumes nothing.
-use mathlib.Core.Path.{_≡_, refl, sym, ap, subst, _∙_}
+use mathlib.Core.Path.{_≡_, refl, ap, subst, _∙_}
 use mathlib.Core.Bool.{Bool, true, false, not, cond}
 use Prim.Native.Nat.{ℕ, _<_, _≤_}
 use lib.Dec.{eqb}
 use borrow.Author.Tests.{ne-eqb, lt-ltb, le-ltb, le-leb, lt-leb}
 use Rattle.folds.specs.Folds.{lowest}
 use Rattle.sets.specs.Sets.{has}
-use Rattle.block.specs.Tables.{barrierCount, isIdle, isReady, warpAt, barrierAt, liveOf}
+use Rattle.block.specs.Tables.{barrierCount, isIdle, isReduction, isReady, warpAt, barrierAt, liveOf}
 use Rattle.block.specs.Rows.{badCount, differs, arrivedRow, completes}
-use Rattle.barriers.specs.Steps.{noSuchWarp, notReady, noSuchBarrier, warpLine, warpRefusal, arrivalRefusal, callRefusal, completed, goesOn, refused, arrival, without, opened, exit}
+use Rattle.barriers.specs.Steps.{noSuchWarp, notReady, noSuchBarrier, warpLine, warpRefusal, arrivalRefusal, callRefusal, freedWarp, completed, goesOn, refused, arrival, without, opened, exit}
+use Rattle.block.specs.declared.Status.the-variants.{Ready}
 use Rattle.block.specs.declared.Verdict.the-variants.{Accepted}
 use Rattle.block.specs.declared.Warp.{Warp}
 use Rattle.block.specs.declared.Barrier.{Barrier}
@@ -86,6 +87,19 @@ module _ (b : Block) (w k : ℕ) (c : Call) where
     pub call-line : k < barrierCount → (n : ℕ) → n ≡ callRefusal (b .warps) (barrierAt b k) w c → n ≡ arrivalRefusal b w k c
     call-line h n e = rw (arrival-lines, free, lt-leb barrierCount k h, ← e)
 
+-- ---- a warp where a barrier completed
+
+module _ (r : Barrier) (value w : ℕ) (x : Warp) where
+  pub not-freed : has (r .waiting) w ≡ false → x ≡ freedWarp r value w x
+  not-freed e = rw e
+
+  module _ (waited : has (r .waiting) w ≡ true) where
+    pub freed-of-red : isReduction (r .form) ≡ true → record { status = Ready; result = value } ≡ freedWarp r value w x
+    freed-of-red e = rw (waited, e)
+
+    pub freed-of-sync : isReduction (r .form) ≡ false → record { status = Ready; result = x .result } ≡ freedWarp r value w x
+    freed-of-sync e = rw (waited, e)
+
 -- ---- the ends of an arrival
 
 module _ (b : Block) (w k : ℕ) (c : Call) where
@@ -112,21 +126,12 @@ module _ (b : Block) (w : ℕ) where
   unfolding exit
   exit-refused n e h = rw (← e, ne-eqb n 0 h)
 
-  module _ (e : Block) (gone : e ≡ without b w) (free : warpRefusal b w ≡ 0) where
-    abbrev Alone : Block → Type 0
-    Alone x = barrierCount ≤ opened x → record { verdict = Accepted 0 false 0; block = x } ≡ exit b w
-
-    abbrev Opens : Block → Type 0
-    Opens x = opened x < barrierCount → completed x (opened x) (barrierAt x (opened x)) ≡ exit b w
-
-    pub exit-alone : Alone e
+  module _ (free : warpRefusal b w ≡ 0) where
+    pub exit-alone : barrierCount ≤ opened (without b w) → record { verdict = Accepted 0 false 0; block = without b w } ≡ exit b w
     unfolding exit
-    exit-alone = subst Alone (sym gone) (λ h. rw (free, le-ltb (opened (without b w)) barrierCount h))
+    exit-alone h = rw (free, le-ltb (opened (without b w)) barrierCount h)
 
-    exit-opens : Opens e
+    pub exit-completes : opened (without b w) < barrierCount
+        → completed (without b w) (opened (without b w)) (barrierAt b (opened (without b w))) ≡ exit b w
     unfolding exit
-    exit-opens = subst Opens (sym gone) (λ h. rw (free, lt-ltb (opened (without b w)) barrierCount h))
-
-    pub exit-completes : (k : ℕ) → k ≡ opened e → k < barrierCount → completed e k (barrierAt e k) ≡ exit b w
-    exit-completes k q h =
-        ap (λ (j : ℕ). completed e j (barrierAt e j)) q ∙ exit-opens (subst (λ (j : ℕ). j < barrierCount) q h)
+    exit-completes h = rw (free, lt-ltb (opened (without b w)) barrierCount h)

@@ -1,18 +1,14 @@
 // What exit, sync, arrive and red do to the block.
 use block::BARRIER_COUNT;
 use block::Barrier;
-use block::Block;
 use block::Call;
 use block::MOST_WARPS;
 use block::Status;
 use block::Verdict;
 use block::Warp;
 ghost use mathlib.Core.Path.{_≡_};
-ghost use mathlib.Core.List.{[]};
-ghost use Rattle.block.specs.Tables.{warpAt, liveOf};
-ghost use Rattle.block.specs.Rows.{resultOf};
-ghost use Rattle.barriers.specs.Steps.{warpLine, callRefusal, freedWarp, releasedWarps, opened as openedOf, exit as exitOf};
-ghost use Rattle.barriers.specs.Changes.{withStatus, withBarrier, changed as changedOf, noChange, refusing, goingOn, completing, made, Arrives};
+ghost use Rattle.barriers.specs.Steps.{warpLine, callRefusal, freedWarp};
+ghost use Rattle.barriers.specs.Changes.{noChange, refusing, goingOn, completing, firstOpening, Arrives, Exits};
 
 // What a step changes in the block: the status of a warp, the row of a barrier, and the row whose waiting warps are released. Warp 32, barrier 16 and an idle row stand for none.
 pub struct Change {
@@ -27,25 +23,6 @@ pub struct Change {
 pub struct Moved {
     pub verdict: Verdict,
     pub change: Change,
-}
-
-// The warps that have not exited, of a block of so many warps and these rows.
-fn live(warps: u8, rows: [Warp; MOST_WARPS as usize]) -> u32
-    ensures { λ r. ⌜ r ≡ liveOf (record { warps = warps; rows = rows; barriers = [] }) ⌝ }
-{
-    let n = if warps < MOST_WARPS {
-        warps
-    } else {
-        MOST_WARPS
-    };
-    let mut set: u32 = 0;
-    let mut w: u8 = 0;
-    while w < n {
-        let row = rows[w as usize];
-        set += (block::is_live(warps, w, row) as u32) << (w as u32);
-        w += 1;
-    }
-    set
 }
 
 // The lowest of lines 4 and 5 that applies to a step of warp w, whose row is this, in a block of so many warps, and 0 if none does.
@@ -169,63 +146,6 @@ pub fn freed(r: Barrier, value: u32, w: u8, row: Warp) -> Warp
     }
 }
 
-// The warp rows with the waiting warps of row r released.
-fn release(rows: [Warp; MOST_WARPS as usize], r: Barrier, value: u32) -> [Warp; MOST_WARPS as usize]
-    requires { ⌜ value ≡ resultOf r ⌝ }
-    ensures { λ t. ⌜ t ≡ releasedWarps r rows ⌝ }
-{
-    let mut after = rows;
-    let mut w: u8 = 0;
-    while w < MOST_WARPS {
-        let row = rows[w as usize];
-        after[w as usize] = freed(r, value, w, row);
-        w += 1;
-    }
-    after
-}
-
-// The block with another row of barrier k; there is none past the last.
-fn with_barrier(mut b: Block, k: usize, row: Barrier) -> Block
-    ensures { λ r. ⌜ r ≡ withBarrier b k row ⌝ }
-{
-    if k < BARRIER_COUNT as usize {
-        b.barriers[k] = row;
-    }
-    b
-}
-
-// The block with another status of warp w; there is none past the last.
-fn with_status(mut b: Block, w: usize, status: Status) -> Block
-    ensures { λ r. ⌜ r ≡ record { warps = b .warps; rows = withStatus (b .rows) w status; barriers = b .barriers } ⌝ }
-{
-    if w < MOST_WARPS as usize {
-        let row = b.rows[w];
-        b.rows[w] = Warp {
-            status,
-            result: row.result,
-        };
-    }
-    b
-}
-
-// The block with a change made.
-pub fn changed(b: Block, c: Change) -> Block
-    ensures { λ r. ⌜ r ≡ changedOf b c ⌝ }
-{
-    let row = c.row;
-    let status = c.status;
-    let freed = c.freed;
-    let put = with_status(with_barrier(b, c.barrier, row), c.warp, status);
-    let before = put.rows;
-    let rows = release(before, freed, block::rows::result_of(freed));
-    let barriers = put.barriers;
-    Block {
-        warps: put.warps,
-        rows,
-        barriers,
-    }
-}
-
 // Sync, arrive and red: what the arrival of warp w at barrier k changes in any block of so many warps, of which those of alive have not exited, where these are the rows of the warp and the barrier.
 pub fn arrival(warps: u8, alive: u32, warp: Warp, barrier: Barrier, w: u8, k: u8, c: Call) -> Moved
     ensures { λ m. ⌜ Arrives warps alive warp barrier w k c m ⌝ }
@@ -251,17 +171,16 @@ pub fn arrival(warps: u8, alive: u32, warp: Warp, barrier: Barrier, w: u8, k: u8
     go_on(MOST_WARPS as usize, Status::Ready, k as usize, r)
 }
 
-// The barrier that completes without the warp that exited, and 16 if none does.
-fn opened(b: Block) -> u8
-    ensures { λ r. ⌜ r ≡ openedOf b ⌝ }
+// The barrier that completes when warp w exits, where those of alive have not exited before, and 16 if none does.
+fn opened(barriers: [Barrier; BARRIER_COUNT as usize], alive: u32, w: u8) -> u8
+    ensures { λ r. ⌜ r ≡ firstOpening barriers alive w ⌝ }
 {
-    let rows = b.rows;
-    let alive = live(b.warps, rows);
     let mut k: u8 = 0;
     while k < BARRIER_COUNT {
-        let r = b.barriers[k as usize];
+        let r = barriers[k as usize];
         let f = r.form;
-        if !(block::form_number(f) == 0) & (r.threads == 0) & sets::part(alive, r.arrived) {
+        let there = sets::put(r.arrived, w);
+        if !(block::form_number(f) == 0) & (r.threads == 0) & sets::part(alive, there) {
             break;
         }
         k += 1;
@@ -269,28 +188,23 @@ fn opened(b: Block) -> u8
     k
 }
 
-// The row of warp w, and past the last row a fresh one.
-fn warp_row(b: Block, w: u8) -> Warp
-    ensures { λ r. ⌜ r ≡ warpAt b w ⌝ }
+// Exit: what the exit of warp w changes in any block of so many warps, of which those of alive have not exited, where this is the row of the warp and these are the rows of the barriers.
+pub fn exit(
+    warps: u8,
+    alive: u32,
+    warp: Warp,
+    barriers: [Barrier; BARRIER_COUNT as usize],
+    w: u8,
+) -> Moved
+    ensures { λ m. ⌜ Exits warps alive warp barriers w m ⌝ }
 {
-    if MOST_WARPS <= w {
-        return block::rows::fresh_warp();
-    }
-    b.rows[w as usize]
-}
-
-// Warp w exits.
-pub fn exit(b: Block, w: u8) -> Moved
-    ensures { λ m. ⌜ made b m ≡ exitOf b w ⌝ }
-{
-    let n = warp_refusal(b.warps, warp_row(b, w), w);
+    let n = warp_refusal(warps, warp, w);
     if n != 0 {
         return refuse(n);
     }
-    let e = with_status(b, w as usize, Status::Exited);
-    let k = opened(e);
+    let k = opened(barriers, alive, w);
     if k < BARRIER_COUNT {
-        let r = e.barriers[k as usize];
+        let r = barriers[k as usize];
         return complete(w as usize, Status::Exited, k as usize, r);
     }
     go_on(

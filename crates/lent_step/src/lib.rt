@@ -13,7 +13,7 @@ pub fn step(b: &mut Block, objects: &mut [Object], tally: &mut Tally, s: Step) -
     let fine = rows::rows_sound(objects);
     let at = lent::slot(s);
     let row = rows::row_at(objects, at);
-    let d = whole_step::decide(*b, fine, row, s);
+    let d = decisions::decide(*b, fine, row, s);
     rows::put_row(objects, at, d.object);
     rows::count(tally, d.verdict);
     in_place::change(b, d.change);

@@ -1,27 +1,21 @@
-use mathlib.Core.Path.{_≡_, refl, sym}
-use mathlib.Core.Bool.{not}
-use mathlib.Core.List.{[], _∷_}
+use mathlib.Core.Path.{_≡_, refl, sym, ap, _∙_}
 use Prim.Native.Nat.{_≤_, _-_}
 use native.Mathlib.Omega.{arith}
-use lib.Dec.{eqb}
+use lib.ListN.{getD}
 use borrow.Author.Needs.{needs}
 use Rattle.folds.specs.Folds.{first, every}
 use Rattle.folds.proofs.Folds.{first-none, first-found, first-end}
-use Rattle.sets.specs.Sets.{part}
-use Rattle.block.specs.Tables.{isIdle, barrierAt}
+use Rattle.sets.specs.Sets.{put, part}
+use Rattle.block.specs.Tables.{idle}
+use Rattle.barriers.specs.Changes.{opensFor}
 use Rattle.barriers.proofs.opened.Statement.{statement}
 use Rattle.barriers.proofs.opened.Tie as tie
 
 abbrev Inv-loop : tie.InvT-loop
-Inv-loop b alive k₀ k =
-    (k ≤ 16)
-    × (first k (λ j. every (not (isIdle (barrierAt b j .form)) ∷ eqb (barrierAt b j .threads) 0 ∷ part alive (barrierAt b j .arrived) ∷ [])) ≡ k)
+Inv-loop alive w barriers k₀ k = (k ≤ 16) × (first k (λ j. opensFor (getD barriers j idle) alive w) ≡ k)
 
 abbrev μ-loop : tie.MeasureT-loop
-μ-loop b alive k₀ k = 16 - k
-
-live-requires : tie.Need-live-requires Inv-loop μ-loop
-live-requires c κs = search needs
+μ-loop alive w barriers k₀ k = 16 - k
 
 loop-holds : tie.Need-loop-holds Inv-loop μ-loop
 unfolding first
@@ -33,8 +27,11 @@ cast-r c = omega arith
 mul-r : tie.Need-mul-r Inv-loop μ-loop
 mul-r c = omega arith
 
-element-copy-out-r : tie.Need-element-copy-out-r Inv-loop μ-loop
-element-copy-out-r c = omega arith
+array-copy-out-r : tie.Need-array-copy-out-r Inv-loop μ-loop
+array-copy-out-r c = omega arith
+
+put-requires : tie.Need-put-requires Inv-loop μ-loop
+put-requires c κs = search needs
 
 form-number-requires : tie.Need-form-number-requires Inv-loop μ-loop
 form-number-requires c κs = search needs
@@ -48,26 +45,31 @@ add-k c = omega arith
 loop-less : tie.Need-loop-less Inv-loop μ-loop
 loop-less c = omega arith
 
+-- every warp but w that is alive has arrived, if the call says so
+arrived-is : (c : tie.After-part Inv-loop μ-loop) → let l = c .before .before .before .before in
+    let a = l .before .before .before .args in
+    c .part .result ≡ part (a .alive) (put (getD (a .t1) (l .before .before .loop .k) idle .arrived) (a .w))
+arrived-is c = c .part .ensures ∙ ap (part (c .before .before .before .before .before .before .before .args .alive)) (c .before .before .before .put .ensures)
+
 loop-again : tie.Need-loop-again Inv-loop μ-loop
 unfolding every
-loop-again c = (
-  omega arith,
-  first-none _ _ (c .before .before .before .before .before .before .loop .inv .1)
-      (rw (c .before .before .before .form-number .ensures, c .before .part .ensures) at (c .if1 .left)),
-)
+loop-again c =
+    let f = c .before .before .before in (
+      omega arith,
+      first-none _ _ (f .before .before .before .before .loop .inv .1)
+          (rw (f .form-number .ensures, arrived-is (c .before)) at (c .if1 .left)),
+    )
 
 returns : tie.Need-returns Inv-loop μ-loop
-returns c =
-    rw (← c .before .before .live .ensures) (first-end _ _ 16 (c .before .loop .inv .0) (c .loop-test .left) (c .before .loop .inv .1))
+returns c = first-end _ _ 16 (c .before .loop .inv .0) (c .loop-test .left) (c .before .loop .inv .1)
 
 returns-2 : tie.Need-returns-2 Inv-loop μ-loop
 unfolding every
 returns-2 c =
-    let l = c .before .before .before .before .before .before in
-    rw (← l .before .live .ensures)
-    (sym
-    (first-found _ _ 16 (c .before .before .before .before .before .loop-test .taken) (l .loop .inv .1)
-    (rw (c .before .before .before .form-number .ensures, c .before .part .ensures) at (c .if1 .taken))))
+    let f = c .before .before .before in
+    sym
+    (first-found _ _ 16 (f .before .before .before .loop-test .taken) (f .before .before .before .before .loop .inv .1)
+    (rw (f .form-number .ensures, arrived-is (c .before)) at (c .if1 .taken)))
 
 pub opened-spec : {M : Type 1} → statement M
 opened-spec =
@@ -75,11 +77,11 @@ opened-spec =
     (tie.spec
     Inv-loop
     μ-loop
-    live-requires
     loop-holds
     cast-r
     mul-r
-    element-copy-out-r
+    array-copy-out-r
+    put-requires
     form-number-requires
     part-requires
     add-k

@@ -63,10 +63,10 @@ use Rattle.tables.specs.declared.Taken.{Taken}
 use Rattle.barriers.specs.Changes.{changed}
 use Rattle.barriers.proofs.Change as N
 use Rattle.barriers.proofs.Change.Laws as N′
-use Rattle.whole_step.specs.declared.Decided.{Decided}
-use Rattle.whole_step.specs.Decides.{leftOf}
-use Rattle.whole_step.proofs.Decided as U
-use Rattle.whole_step.proofs.Decided.Laws as U′
+use Rattle.decisions.specs.declared.Decided.{Decided}
+use Rattle.decisions.specs.Decides.{leftOf}
+use Rattle.decisions.proofs.Decided as U
+use Rattle.decisions.proofs.Decided.Laws as U′
 use Rattle.tables.specs.Tables.{viewOf, slotOf, soundObjects, tallied}
 use Rattle.tables.specs.Effect.{taken}
 use Rattle.tables.proofs.Tally as T
@@ -74,10 +74,10 @@ use Rattle.in_place.proofs.change as change
 use Rattle.in_place.proofs.change.Symbol as change-def
 use Rattle.in_place.proofs.change.Symbol.{name as #in-place·change}
 use Rattle.in_place.proofs.change.Met as change-thm
-use Rattle.whole_step.proofs.decide as decide
-use Rattle.whole_step.proofs.decide.Symbol as decide-def
-use Rattle.whole_step.proofs.decide.Symbol.{name as #whole-step·decide}
-use Rattle.whole_step.proofs.decide.Met as decide-thm
+use Rattle.decisions.proofs.decide as decide
+use Rattle.decisions.proofs.decide.Symbol as decide-def
+use Rattle.decisions.proofs.decide.Symbol.{name as #decisions·decide}
+use Rattle.decisions.proofs.decide.Met as decide-thm
 use Rattle.rows.proofs.Walk.{says-too, calls-saying, calls-exact, gone1, concluded, over}
 use Rattle.rows.proofs.rows_sound as rows-sound
 use Rattle.rows.proofs.rows_sound.Symbol as rows-sound-def
@@ -136,7 +136,7 @@ module _ {M : Type 1} (𝓤 : URA M) (H : Heap 𝓤) (A : Atoms 𝓤) (at-mem : 
     pub rows-sound : Triple 𝓤 (C #rows·rows-sound) RowsSound
     pub slot : Triple 𝓤 (C #lent·slot) Slot
     pub row-at : Triple 𝓤 (C #rows·row-at) RowAt
-    pub decide : Triple 𝓤 (C #whole-step·decide) Decide
+    pub decide : Triple 𝓤 (C #decisions·decide) Decide
     pub put-row : Triple 𝓤 (C #rows·put-row) PutRow
     pub count : Triple 𝓤 (C #rows·count) Count
     pub change : Triple 𝓤 (C #in-place·change) Changes
@@ -313,7 +313,7 @@ step-spec 𝓤 H 𝓜 𝓖 𝓡 =
       rows-sound = cited 𝓤 H (RowsSound 𝓤 H (𝓖 .A) (𝓜 .mem) (𝓡 .run)) 𝓜 𝓡 code.env #rows·rows-sound rows-sound-def.routine code.calls-rows·rows-sound (rows-sound-thm.met 𝓤 H 𝓜 𝓖 𝓡);
       slot = cited 𝓤 H (Slot 𝓤 H (𝓖 .A) (𝓜 .mem) (𝓡 .run)) 𝓜 𝓡 code.env #lent·slot slot-def.routine code.calls-lent·slot (slot-thm.met 𝓤 H 𝓜 𝓖 𝓡);
       row-at = cited 𝓤 H (RowAt 𝓤 H (𝓖 .A) (𝓜 .mem) (𝓡 .run)) 𝓜 𝓡 code.env #rows·row-at row-at-def.routine code.calls-rows·row-at (row-at-thm.met 𝓤 H 𝓜 𝓖 𝓡);
-      decide = cited 𝓤 H (Decide 𝓤 H (𝓖 .A) (𝓜 .mem) (𝓡 .run)) 𝓜 𝓡 code.env #whole-step·decide decide-def.routine code.calls-whole-step·decide (decide-thm.met 𝓤 H 𝓜 𝓖 𝓡);
+      decide = cited 𝓤 H (Decide 𝓤 H (𝓖 .A) (𝓜 .mem) (𝓡 .run)) 𝓜 𝓡 code.env #decisions·decide decide-def.routine code.calls-decisions·decide (decide-thm.met 𝓤 H 𝓜 𝓖 𝓡);
       put-row = cited 𝓤 H (PutRow 𝓤 H (𝓖 .A) (𝓜 .mem) (𝓡 .run)) 𝓜 𝓡 code.env #rows·put-row put-row-def.routine code.calls-rows·put-row (put-row-thm.met 𝓤 H 𝓜 𝓖 𝓡);
       count = cited 𝓤 H (Count 𝓤 H (𝓖 .A) (𝓜 .mem) (𝓡 .run)) 𝓜 𝓡 code.env #rows·count count-def.routine code.calls-rows·count (count-thm.met 𝓤 H 𝓜 𝓖 𝓡);
       change = cited 𝓤 H (Changes 𝓤 H (𝓖 .A) (𝓜 .mem) (𝓡 .run)) 𝓜 𝓡 code.env #in-place·change change-def.routine code.calls-in-place·change (change-thm.met 𝓤 H 𝓜 𝓖 𝓡);

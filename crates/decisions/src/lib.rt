@@ -1,0 +1,151 @@
+// The whole step decided, on the block and the one object row that the step names: its verdict, and what it changes.
+use barriers::Change;
+use barriers::Moved;
+use block::BARRIER_COUNT;
+use block::Block;
+use block::Verdict;
+use object::Answer;
+use object::Count;
+use object::Object;
+use steps::ObjectStep;
+use steps::Op;
+use steps::Step;
+ghost use mathlib.Core.Path.{_≡_};
+ghost use mathlib.Core.Bool.{_&&_};
+ghost use Rattle.block.specs.Tables.{soundBlock};
+ghost use Rattle.tables.specs.Parts.{objectTaken, pendingTaken};
+ghost use Rattle.tables.specs.Effect.{taken};
+ghost use Rattle.decisions.specs.Decides.{leftOf, refusing, inBlock, answering, IfReady, barrierOf};
+
+// What a step decides: its verdict, what it changes in the block, and the row of the object that it names.
+pub struct Decided {
+    pub verdict: Verdict,
+    pub change: Change,
+    pub object: Object,
+}
+
+// A refusal, which changes neither the block nor the row.
+fn refuse(row: Object, n: u8) -> Decided
+    ensures { λ r. ⌜ r ≡ refusing row n ⌝ }
+{
+    let change = barriers::no_change();
+    Decided {
+        verdict: Verdict::Refused(n),
+        change,
+        object: row,
+    }
+}
+
+// A step of the block's, which leaves the row.
+fn in_block(m: Moved, row: Object) -> Decided
+    ensures { λ r. ⌜ r ≡ inBlock m row ⌝ }
+{
+    let verdict = m.verdict;
+    let change = m.change;
+    Decided {
+        verdict,
+        change,
+        object: row,
+    }
+}
+
+// What an object answered, which leaves the block.
+fn answer(row: Object, a: Answer) -> Decided
+    ensures { λ r. ⌜ r ≡ answering row a ⌝ }
+{
+    match a {
+        Answer::Refused(n) => refuse(row, n),
+        Answer::Accepted { row, value, done } => Decided {
+            verdict: Verdict::Accepted {
+                value,
+                done,
+                released: 0,
+            },
+            change: barriers::no_change(),
+            object: row,
+        },
+    }
+}
+
+// An object step at address a, of a warp whose line is n, or 0 if it has none.
+fn on_object(n: u8, row: Object, a: u16, o: ObjectStep) -> Decided
+    ensures { λ r. ⌜ IfReady n row r (λ b. objectTaken b row a o) ⌝ }
+{
+    if n != 0 {
+        return refuse(row, n);
+    }
+    if (a % 8 != 0) | (504 < a) {
+        return refuse(row, 11);
+    }
+    answer(row, acts::step(row, (a / 8) as u8, asked::act_of(o)))
+}
+
+// A pending count, of a warp whose line is n, or 0 if it has none.
+fn pending(n: u8, row: Object, token: u64) -> Decided
+    ensures { λ r. ⌜ IfReady n row r (λ b. pendingTaken b row token) ⌝ }
+{
+    if n != 0 {
+        return refuse(row, n);
+    }
+    match object::pending_count(token) {
+        Count::NoToken(n) => refuse(row, n),
+        Count::Pending(count) => Decided {
+            verdict: Verdict::Accepted {
+                value: count,
+                done: false,
+                released: 0,
+            },
+            change: barriers::no_change(),
+            object: row,
+        },
+    }
+}
+
+// The barrier that a step names; 16, which there is not, where it names none.
+fn barrier_of(op: Op) -> u8
+    ensures { λ r. ⌜ r ≡ barrierOf op ⌝ }
+{
+    match op {
+        Op::Exit => BARRIER_COUNT,
+        Op::Barrier(k, _) => k,
+        Op::Object(_, _) => BARRIER_COUNT,
+        Op::PendingCount(_) => BARRIER_COUNT,
+    }
+}
+
+// The whole step, on a block, whether all object rows are fine, and the row of the object that it names: its verdict, the row, and what it changes in the block.
+pub fn decide(b: Block, fine: bool, row: Object, step: Step) -> Decided
+    ensures { λ r. ⌜ leftOf b r ≡ taken (record { sound = soundBlock b && fine; block = b; object = row }) step ⌝ }
+{
+    let w = step.warp;
+    let op = step.op;
+    let whole = soundness::survey_of(b, w, barrier_of(op));
+    if !(whole.sound & fine) {
+        return refuse(row, 3);
+    }
+    let warp = whole.warp;
+    let barrier = whole.barrier;
+    match op {
+        Op::Exit => {
+            let barriers = b.barriers;
+            in_block(
+                barriers::exit(whole.warps, whole.live, warp, barriers, w),
+                row,
+            )
+        }
+        Op::Barrier(k, s) => in_block(
+            barriers::arrival(
+                whole.warps,
+                whole.live,
+                warp,
+                barrier,
+                w,
+                k,
+                asked::call_of(s),
+            ),
+            row,
+        ),
+        Op::Object(a, o) => on_object(barriers::warp_refusal(whole.warps, warp, w), row, a, o),
+        Op::PendingCount(t) => pending(barriers::warp_refusal(whole.warps, warp, w), row, t),
+    }
+}
