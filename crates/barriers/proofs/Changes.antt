@@ -16,7 +16,7 @@ use Rattle.folds.specs.Folds.{first, every, firsts}
 use Rattle.sets.specs.Sets.{has, put, part}
 use Rattle.sets.proofs.Sets.{has-none, has-and, has-put-own, has-put-other, has-setOf, setOf-lt, ext, part-has}
 use Rattle.block.specs.Tables.{mostWarps, barrierCount, freshWarp, idle, warpAt, barrierAt, isIdle, isExited, liveOf}
-use Rattle.block.specs.Rows.{arrivedRow, completes, releasedWarp}
+use Rattle.barrier_row.specs.Rows.{arrivedRow, completes, releasedWarp}
 use Rattle.block.specs.declared.Status.the-variants.{Ready, Waiting, Exited}
 use Rattle.block.specs.declared.Warp.{Warp}
 use Rattle.block.specs.declared.Barrier.{Barrier}

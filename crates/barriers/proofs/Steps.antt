@@ -8,7 +8,7 @@ use borrow.Author.Tests.{ne-eqb, lt-ltb, le-ltb, le-leb, lt-leb}
 use Rattle.folds.specs.Folds.{lowest}
 use Rattle.sets.specs.Sets.{has}
 use Rattle.block.specs.Tables.{barrierCount, isIdle, isReduction, isReady, warpAt, barrierAt, liveOf}
-use Rattle.block.specs.Rows.{badCount, differs, arrivedRow, completes}
+use Rattle.barrier_row.specs.Rows.{badCount, differs, arrivedRow, completes}
 use Rattle.barriers.specs.Steps.{noSuchWarp, notReady, noSuchBarrier, warpLine, warpRefusal, arrivalRefusal, callRefusal, freedWarp, completed, goesOn, refused, arrival, without, opened, exit}
 use Rattle.block.specs.declared.Status.the-variants.{Ready}
 use Rattle.block.specs.declared.Verdict.the-variants.{Accepted}

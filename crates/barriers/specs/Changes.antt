@@ -9,7 +9,7 @@ use lib.ListN.{length, getD, set}
 use Rattle.folds.specs.Folds.{first, every}
 use Rattle.sets.specs.Sets.{put, part}
 use Rattle.block.specs.Tables.{mostWarps, barrierCount, freshWarp, idle, warpAt, barrierAt, isIdle, liveOf}
-use Rattle.block.specs.Rows.{resultOf}
+use Rattle.barrier_row.specs.Rows.{resultOf}
 use Rattle.block.specs.declared.Status.{Status}
 use Rattle.block.specs.declared.Status.the-variants.{Ready}
 use Rattle.block.specs.declared.Warp.{Warp}

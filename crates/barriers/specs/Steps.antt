@@ -8,7 +8,7 @@ use lib.ListN.{set}
 use Rattle.folds.specs.Folds.{first, every, lowest, firsts}
 use Rattle.sets.specs.Sets.{has, part}
 use Rattle.block.specs.Tables.{mostWarps, barrierCount, idle, warpAt, barrierAt, isIdle, isReduction, isReady, liveOf}
-use Rattle.block.specs.Rows.{badCount, differs, arrivedRow, completes, resultOf, releasedWarp}
+use Rattle.barrier_row.specs.Rows.{badCount, differs, arrivedRow, completes, resultOf, releasedWarp}
 use Rattle.block.specs.declared.Status.the-variants.{Ready, Waiting, Exited}
 use Rattle.block.specs.declared.Warp.{Warp}
 use Rattle.block.specs.declared.Barrier.{Barrier}

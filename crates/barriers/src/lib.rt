@@ -43,14 +43,14 @@ fn call_refusal(warps: u8, r: Barrier, w: u8, c: Call) -> u8
     ensures { λ t. ⌜ t ≡ callRefusal warps r w c ⌝ }
 {
     let t = c.threads;
-    if block::rows::bad_count(warps, t) {
+    if barrier_row::bad_count(warps, t) {
         return 7;
     }
     let f = c.form;
     if block::form_number(f) == 0 {
         return 8;
     }
-    if block::rows::differs(r, c) {
+    if barrier_row::differs(r, c) {
         return 9;
     }
     if sets::has(r.arrived, w) {
@@ -63,7 +63,7 @@ fn call_refusal(warps: u8, r: Barrier, w: u8, c: Call) -> u8
 pub fn no_change() -> Change
     ensures { λ r. ⌜ r ≡ noChange ⌝ }
 {
-    let idle = block::rows::idle_row();
+    let idle = block::idle_row();
     Change {
         warp: MOST_WARPS as usize,
         status: Status::Ready,
@@ -87,7 +87,7 @@ fn refuse(n: u8) -> Moved
 fn go_on(warp: usize, status: Status, barrier: usize, row: Barrier) -> Moved
     ensures { λ r. ⌜ r ≡ goingOn warp status barrier row ⌝ }
 {
-    let freed = block::rows::idle_row();
+    let freed = block::idle_row();
     Moved {
         verdict: Verdict::Accepted {
             value: 0,
@@ -108,8 +108,8 @@ fn go_on(warp: usize, status: Status, barrier: usize, row: Barrier) -> Moved
 fn complete(warp: usize, status: Status, barrier: usize, r: Barrier) -> Moved
     ensures { λ m. ⌜ m ≡ completing warp status barrier r ⌝ }
 {
-    let value = block::rows::result_of(r);
-    let row = block::rows::idle_row();
+    let value = barrier_row::result_of(r);
+    let row = block::idle_row();
     Moved {
         verdict: Verdict::Accepted {
             value: value as u64,
@@ -161,8 +161,8 @@ pub fn arrival(warps: u8, alive: u32, warp: Warp, barrier: Barrier, w: u8, k: u8
     if m != 0 {
         return refuse(m);
     }
-    let r = block::rows::arrived_row(barrier, w, c);
-    if block::rows::completes(alive, r) {
+    let r = barrier_row::arrived_row(barrier, w, c);
+    if barrier_row::completes(alive, r) {
         return complete(MOST_WARPS as usize, Status::Ready, k as usize, r);
     }
     if c.waits {
@@ -211,6 +211,6 @@ pub fn exit(
         w as usize,
         Status::Exited,
         BARRIER_COUNT as usize,
-        block::rows::idle_row(),
+        block::idle_row(),
     )
 }

@@ -1,10 +1,8 @@
-// The block: its warps and its sixteen named barriers, by value, and its rows one by one.
-pub mod rows;
-
+// The block: its warps and its sixteen named barriers, by value, and what one row of a warp says.
 ghost use mathlib.Core.Path.{_≡_};
 ghost use mathlib.Core.Bool.{not, _&&_};
 ghost use lib.Dec.{ltb};
-ghost use Rattle.block.specs.Tables.{formNumber, isReady, isExited, freshBlock};
+ghost use Rattle.block.specs.Tables.{formNumber, isReady, isExited, freshWarp, idle, freshBlock};
 
 // A block has at most 32 warps.
 pub const MOST_WARPS: u8 = 32;
@@ -14,9 +12,6 @@ pub const LANE_COUNT: u32 = 32;
 
 // There are sixteen named barriers.
 pub const BARRIER_COUNT: u8 = 16;
-
-// The largest number of a row, at which a sum stays.
-const LARGEST: u32 = 4294967295;
 
 pub enum Status {
     Ready,
@@ -82,12 +77,35 @@ pub struct Turn {
     pub block: Block,
 }
 
+// A ready warp's row, with result 0.
+pub fn fresh_warp() -> Warp
+    ensures { λ r. ⌜ r ≡ freshWarp ⌝ }
+{
+    Warp {
+        status: Status::Ready,
+        result: 0,
+    }
+}
+
+// An idle barrier's row.
+pub fn idle_row() -> Barrier
+    ensures { λ r. ⌜ r ≡ idle ⌝ }
+{
+    Barrier {
+        form: Form::Idle,
+        threads: 0,
+        arrived: 0,
+        waiting: 0,
+        trues: 0,
+    }
+}
+
 // The block of so many warps, each ready with result 0, and of idle barriers.
 pub fn fresh(warps: u8) -> Block
     ensures { λ r. ⌜ r ≡ freshBlock warps ⌝ }
 {
-    let warp = rows::fresh_warp();
-    let barrier = rows::idle_row();
+    let warp = fresh_warp();
+    let barrier = idle_row();
     let rows = [warp; MOST_WARPS as usize];
     let barriers = [barrier; BARRIER_COUNT as usize];
     Block {

@@ -11,7 +11,7 @@ use lib.Seq.{getD-set-same, getD-set-other}
 use borrow.Author.Tests.{eq-eqb, ne-eqb, eqb-true, lt-ltb}
 use Rattle.sets.specs.Sets.{has}
 use Rattle.block.specs.Tables.{mostWarps, barrierCount, freshWarp, warpAt, barrierAt, isReady, waitsAt, liveOf, soundBlock}
-use Rattle.block.specs.Rows.{arrivedRow, completes}
+use Rattle.barrier_row.specs.Rows.{arrivedRow, completes}
 use Rattle.barriers.specs.Steps.{completed, goesOn}
 use Rattle.block.specs.declared.Status.the-variants.{Waiting}
 use Rattle.block.specs.declared.Warp.{Warp}

@@ -9,7 +9,7 @@ use borrow.Author.Tests.{eqb-true, eqb-false, lt-ltb, ltb-false, le-leb, not-fal
 use Rattle.sets.specs.Sets.{has, put, size}
 use Rattle.sets.proofs.Sets.{has-none, has-put, has-put-own, put-lt, part-has, part-of, size-le, size-none, size-put}
 use Rattle.block.specs.Tables.{mostWarps, laneCount, barrierAt, formNumber, isIdle, isPlain, isReduction}
-use Rattle.block.specs.Rows.{countOf, largest, upToLargest, arrivedRow, completes}
+use Rattle.barrier_row.specs.Rows.{countOf, largest, upToLargest, arrivedRow, completes}
 use Rattle.barriers.specs.Steps.{badThreads}
 use Rattle.block.specs.declared.Barrier.{Barrier}
 use Rattle.block.specs.declared.Block.{Block}

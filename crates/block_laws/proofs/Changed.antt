@@ -14,7 +14,7 @@ use borrow.Author.Tests.{ne-eqb, eqb-true, lt-ltb, ltb-true, ltb-false}
 use Rattle.sets.specs.Sets.{has}
 use Rattle.sets.proofs.Sets.{has-none, has-high, setOf-cong}
 use Rattle.block.specs.Tables.{mostWarps, barrierCount, freshWarp, idle, warpAt, barrierAt, isReady, isExited, waitsAt, liveOf, warpSound, soundBlock}
-use Rattle.block.specs.Rows.{releasedWarp}
+use Rattle.barrier_row.specs.Rows.{releasedWarp}
 use Rattle.barriers.specs.Steps.{releasedWarps, completed}
 use Rattle.block.specs.declared.Status.{Status}
 use Rattle.block.specs.declared.Status.the-variants.{Ready, Waiting, Exited}

@@ -11,7 +11,7 @@ use borrow.Author.Tests.{eqb-true}
 use Rattle.folds.proofs.Folds.{every-at}
 use Rattle.sets.specs.Sets.{has}
 use Rattle.block.specs.Tables.{mostWarps, barrierCount, freshWarp, idle, warpAt, barrierAt, soundBlock}
-use Rattle.block.specs.Rows.{arrivedRow, resultOf, releasedWarp}
+use Rattle.barrier_row.specs.Rows.{arrivedRow, resultOf, releasedWarp}
 use Rattle.barriers.specs.Steps.{completed, arrival, without, opens, opened, exit}
 use Rattle.block.specs.declared.Warp.{Warp}
 use Rattle.block.specs.declared.Barrier.{Barrier}

@@ -6,7 +6,7 @@ use Prim.Native.Nat.{ℕ, _<_, _≤_}
 use lib.Dec.{eqb, ltb}
 use borrow.Author.Tests.{eqb-true, ltb-true, ltb-false}
 use Rattle.block.specs.Tables.{barrierCount, barrierAt, liveOf}
-use Rattle.block.specs.Rows.{arrivedRow, completes}
+use Rattle.barrier_row.specs.Rows.{arrivedRow, completes}
 use Rattle.barriers.specs.Steps.{warpRefusal, arrivalRefusal, completed, goesOn, refused, arrival, without, opened, exit}
 use Rattle.block.specs.declared.Barrier.{Barrier}
 use Rattle.block.specs.declared.Block.{Block}

@@ -5,7 +5,7 @@ use mathlib.Core.Bool.{true}
 use Prim.Native.Nat.{ℕ, _+_, _*_, _<_, _≤_}
 use lib.ListN.{length}
 use Rattle.block.specs.Tables.{mostWarps, laneCount, barrierCount, barrierAt, isPlain, isReduction, soundBlock, freshBlock}
-use Rattle.block.specs.Rows.{upToLargest}
+use Rattle.barrier_row.specs.Rows.{upToLargest}
 use Rattle.barriers.specs.Steps.{arrival, exit}
 use Rattle.calls.specs.Calls.{syncCall, arriveCall, redCall}
 use Rattle.block.specs.declared.Block.{Block}

@@ -14,7 +14,7 @@ use Rattle.sets.specs.Sets.{has}
 use Rattle.sets.proofs.Sets.{has-none}
 use Rattle.block.specs.declared.Warp.{Warp}
 use Rattle.block.specs.declared.Barrier.{Barrier}
-use Rattle.block.specs.Rows.{resultOf, releasedWarp}
+use Rattle.barrier_row.specs.Rows.{resultOf, releasedWarp}
 use Rattle.barriers.specs.Steps.{freedWarp, releasedWarps}
 
 -- ---- the first places of a list

@@ -59,7 +59,7 @@ pub fn release(rows: &mut [Warp], r: Barrier)
     if r.waiting == 0 {
         return;
     }
-    let value = block::rows::result_of(r);
+    let value = barrier_row::result_of(r);
     let n = rows.len();
     let mut i: usize = 0;
     while i < n {

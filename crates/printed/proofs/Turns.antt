@@ -18,7 +18,7 @@ use Rattle.steps.specs.Step.{readAt}
 use Rattle.block.specs.declared.Verdict.{Verdict}
 use Rattle.block.specs.declared.Verdict.the-variants.{Refused, Accepted}
 use Rattle.block.specs.Tables.{mostWarps}
-use Rattle.block.specs.Rows.{largest}
+use Rattle.barrier_row.specs.Rows.{largest}
 use Rattle.tables.specs.declared.Tally.{Tally}
 use Rattle.tables.specs.Tables.{Tables, freshTables, tallied, counted}
 use Rattle.tables.specs.Effect.{verdict, after}

@@ -1,7 +1,7 @@
 -- The warps that wait at each barrier, as the check gathers them; once all are gathered, the rows agree with the sets exactly when they agree with the warps.
 -- Assumes nothing.
 use mathlib.Core.Path.{_≡_, refl, sym, ap, _∙_}
-use mathlib.Core.Bool.{Bool, true, false, Bool·beq, false≢true}
+use mathlib.Core.Bool.{Bool, true, false, _&&_, Bool·beq, false≢true}
 use mathlib.Core.List.{List}
 use Prim.Native.Nat.{ℕ, _+_, _*_, _%_, _^_, _<_}
 use native.Mathlib.Nat.{zero-mul, add-zero}
@@ -12,14 +12,15 @@ use lib.Dec.{eqb, ltb}
 use lib.ListN.{length, length-set, getD, set, replicate, getD-replicate}
 use lib.Seq.{getD-set-same, getD-set-other}
 use borrow.Author.Tests.{eq-eqb, ne-eqb, ltb-true, ltb-false}
+use Rattle.folds.specs.Folds.{every}
 use Rattle.folds.proofs.Folds.{and-left, all-cong}
 use Rattle.sets.specs.Sets.{has, setOf}
 use Rattle.sets.proofs.Sets.{setOf-lt, setOf-more, has-setOf, has-high}
 use Rattle.block.specs.declared.Status.{Status}
 use Rattle.block.specs.declared.Status.the-variants.{Ready, Waiting, Exited}
 use Rattle.block.specs.declared.Block.{Block}
-use Rattle.block.specs.Tables.{mostWarps, barrierCount, warpAt, barrierAt, isReady, waitsAt, agreeing}
-use Rattle.soundness.specs.Waiters.{allAlike}
+use Rattle.block.specs.Tables.{mostWarps, barrierCount, warpAt, barrierAt, isReady, waitsAt, warpsCounted, warpsSound, liveOf, agreeing, soundBlock}
+use Rattle.agreement.specs.Agreement.{allSound, allAlike}
 use Rattle.soundness.proofs.Warps.{FreshTo}
 
 -- those of the first n warps that wait at barrier k
@@ -87,3 +88,9 @@ module _ (b : Block) (here : List ℕ) (spare : FreshTo b mostWarps) (so : Gathe
   pub all-agreeing : allAlike (b .barriers) here ≡ agreeing b
   all-agreeing =
       all-cong _ _ barrierCount (λ k l. all-cong _ _ mostWarps (λ w m. ap (Bool·beq (has (barrierAt b k .waiting) w)) (has-waiters k w l m)))
+
+-- where the warps are sound, the rows decide
+pub rows-decide : (b : Block) (alive : ℕ) (here : List ℕ) → warpsCounted b ≡ true → warpsSound b ≡ true → alive ≡ liveOf b
+    → allAlike (b .barriers) here ≡ agreeing b → allSound (b .warps) alive (b .barriers) && allAlike (b .barriers) here ≡ soundBlock b
+unfolding soundBlock every
+rows-decide b alive here counted warps live alike = rw (live, alike, counted, warps)

@@ -1,2 +1,1 @@
-pub mod Survey
-pub mod Waiters
+pub mod Seen

@@ -6,12 +6,10 @@ use block::MOST_WARPS;
 use block::Status;
 use block::Warp;
 ghost use mathlib.Core.Path.{_≡_};
-ghost use mathlib.Core.Bool.{false, _&&_, Bool·beq};
+ghost use mathlib.Core.Bool.{_&&_};
 ghost use lib.Dec.{eqb};
-ghost use Rattle.sets.specs.Sets.{has};
 ghost use Rattle.block.specs.Tables.{isReady, waitsPlaced, soundBlock};
-ghost use Rattle.soundness.specs.Waiters.{allSound, allAlike};
-ghost use Rattle.soundness.specs.Survey.{Surveyed};
+ghost use Rattle.soundness.specs.Seen.{nothingSeen, surveyOf};
 
 // What a step sees of a block: whether its tables are sound and, where they are, how many warps it has, which of them have not exited, and the rows of the warp and of the barrier that the step names.
 pub struct Survey {
@@ -41,48 +39,12 @@ fn is_fresh(row: Warp) -> bool
     block::is_ready(row) & (row.result == 0)
 }
 
-// Whether barrier row r and the warps that wait there agree about warp w: both sets have it or neither does.
-fn agree(r: Barrier, here: u32, w: u8) -> bool
-    ensures { λ t. ⌜ t ≡ Bool·beq (has (r .waiting) w) (has here w) ⌝ }
-{
-    sets::has(r.waiting, w) == sets::has(here, w)
-}
-
-// Whether every barrier row is sound and agrees about every warp with who waits there; the first disagreement ends the check.
-fn rows_agree(
-    n: u8,
-    barriers: [Barrier; BARRIER_COUNT as usize],
-    alive: u32,
-    here: [u32; BARRIER_COUNT as usize],
-) -> bool
-    ensures { λ r. ⌜ r ≡ allSound n alive barriers && allAlike barriers here ⌝ }
-{
-    let mut ok = true;
-    let mut k: u8 = 0;
-    'rows: while k < BARRIER_COUNT {
-        let barrier = barriers[k as usize];
-        if !row_soundness::row_sound(n, alive, barrier) {
-            return false;
-        }
-        let mut w: u8 = 0;
-        while w < MOST_WARPS {
-            ok = agree(barrier, here[k as usize], w);
-            if !ok {
-                break 'rows;
-            }
-            w += 1;
-        }
-        k += 1;
-    }
-    ok
-}
-
-// Of a block that is not sound nothing more is seen.
+// Of a block that is not sound nothing is seen.
 fn unsound() -> Survey
-    ensures { λ r. ⌜ r .sound ≡ false ⌝ }
+    ensures { λ r. ⌜ r ≡ nothingSeen ⌝ }
 {
-    let warp = block::rows::fresh_warp();
-    let barrier = block::rows::idle_row();
+    let warp = block::fresh_warp();
+    let barrier = block::idle_row();
     Survey {
         sound: false,
         warps: 0,
@@ -94,7 +56,7 @@ fn unsound() -> Survey
 
 // What a step of warp own sees of the block, at barrier named: the rows past the number of warps, then the warps, who are gathered where they wait, and last the barriers. The two rows are read here, since a function that is given the block costs a copy of it.
 pub fn survey_of(b: Block, own: u8, named: u8) -> Survey
-    ensures { λ r. ⌜ Surveyed b own named r ⌝ }
+    ensures { λ r. ⌜ r ≡ surveyOf b own named ⌝ }
 {
     let n = b.warps;
     if !((1 <= n) & (n <= MOST_WARPS)) {
@@ -127,19 +89,22 @@ pub fn survey_of(b: Block, own: u8, named: u8) -> Survey
         }
         w += 1;
     }
+    let barriers = b.barriers;
+    if !agreement::rows_agree(n, barriers, alive, here) {
+        return unsound();
+    }
     let warp = if own < MOST_WARPS {
         b.rows[own as usize]
     } else {
-        block::rows::fresh_warp()
+        block::fresh_warp()
     };
     let barrier = if named < BARRIER_COUNT {
         b.barriers[named as usize]
     } else {
-        block::rows::idle_row()
+        block::idle_row()
     };
-    let barriers = b.barriers;
     Survey {
-        sound: rows_agree(n, barriers, alive, here),
+        sound: true,
         warps: n,
         live: alive,
         warp,

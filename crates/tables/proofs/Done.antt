@@ -26,7 +26,7 @@ use Rattle.block.specs.declared.Block.{Block}
 use Rattle.block.specs.declared.Turn.{Turn}
 use Rattle.block.specs.declared.Verdict.the-variants.{Accepted}
 use Rattle.block.specs.Tables.{barrierCount, idle, barrierAt, liveOf, isIdle, soundBlock}
-use Rattle.block.specs.Rows as rows
+use Rattle.barrier_row.specs.Rows as rows
 use Rattle.barriers.specs.Steps as barriers
 use Rattle.block_laws.specs.Sound.{Shaped}
 use Rattle.block_laws.proofs.General.{first-holds}

@@ -19,7 +19,7 @@ use Rattle.block.specs.declared.Turn.{Turn}
 use Rattle.block.specs.declared.Verdict.{Verdict}
 use Rattle.block.specs.declared.Verdict.the-variants.{Refused, Accepted}
 use Rattle.block.specs.Tables.{liveOf, barrierAt}
-use Rattle.block.specs.Rows as rows
+use Rattle.barrier_row.specs.Rows as rows
 use Rattle.barriers.specs.Steps as barriers
 use Rattle.tables.specs.declared.Taken.{Taken}
 use Rattle.tables.specs.Tables.{View, viewOf, slotOf, numberOf, isAccepted, valueOf, doneOf, releasedOf}

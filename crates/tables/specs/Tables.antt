@@ -17,7 +17,7 @@ use Rattle.block.specs.declared.Block.{Block}
 use Rattle.block.specs.declared.Verdict.{Verdict}
 use Rattle.block.specs.declared.Verdict.the-variants.{Refused, Accepted}
 use Rattle.block.specs.Tables.{soundBlock, freshBlock}
-use Rattle.block.specs.Rows.{largest}
+use Rattle.barrier_row.specs.Rows.{largest}
 use Rattle.tables.specs.declared.Tally.{Tally}
 
 -- the number of warps, the warp rows and the barrier rows; and the list of object rows

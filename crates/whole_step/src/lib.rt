@@ -12,7 +12,7 @@ use tables::Taken;
 ghost use mathlib.Core.Path.{_≡_};
 ghost use mathlib.Core.Bool.{_&&_};
 ghost use Rattle.block.specs.Tables.{soundBlock};
-ghost use Rattle.block.specs.Rows.{resultOf};
+ghost use Rattle.barrier_row.specs.Rows.{resultOf};
 ghost use Rattle.barriers.specs.Steps.{releasedWarps};
 ghost use Rattle.barriers.specs.Changes.{withStatus, withBarrier, changed as changedOf};
 ghost use Rattle.tables.specs.Effect.{taken};
@@ -65,7 +65,7 @@ fn changed(b: Block, c: Change) -> Block
     let freed = c.freed;
     let put = with_status(with_barrier(b, c.barrier, row), c.warp, status);
     let before = put.rows;
-    let rows = release(before, freed, block::rows::result_of(freed));
+    let rows = release(before, freed, barrier_row::result_of(freed));
     let barriers = put.barriers;
     Block {
         warps: put.warps,

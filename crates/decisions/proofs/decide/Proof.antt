@@ -11,6 +11,9 @@ use Rattle.block.specs.declared.Call.{Call}
 use Rattle.barriers.specs.Steps.{warpLine, warpRefusal, arrival}
 use Rattle.barriers.proofs.Steps.{row-line}
 use Rattle.block_laws.specs.Sound.{Shaped}
+use Rattle.soundness.specs.declared.Survey.{Survey}
+use Rattle.soundness.specs.Seen.{allSeen}
+use Rattle.soundness.proofs.Seen.{says-sound, sees-all}
 use Rattle.tables.specs.Tables.{View}
 use Rattle.tables.specs.Parts.{blockTaken}
 use Rattle.tables.specs.Effect.{taken}
@@ -35,6 +38,10 @@ shape s = record { rows = simp length-map at (s .good .0 .1 .1 .1 .0 .1 .0 .1); 
 abbrev seen : tie.Start → Bool → View
 seen s t = record { sound = t; block = s .args .b; object = s .args .row }
 
+-- the survey says whether the block is sound
+says : (k : tie.After-survey-of) → k .survey-of .result .sound ≡ soundBlock (k .before .before .args .b)
+says k = ap (λ (r : Survey). r .sound) (k .survey-of .ensures) ∙ says-sound (k .before .before .args .b) _ _
+
 refuse-requires : tie.Need-refuse-requires
 refuse-requires c κs = search needs
 
@@ -42,19 +49,23 @@ returns : tie.Need-returns
 returns c =
     let k = c .before .before in
     let s = k .before .before .before in
-    let e : soundBlock (s .args .b) && s .args .fine ≡ false = rw (← k .before .survey-of .ensures .sound) (not-true _ (c .before .if1 .taken)) in
+    let e : soundBlock (s .args .b) && s .args .fine ≡ false = rw (← says (k .before)) (not-true _ (c .before .if1 .taken)) in
     ap (leftOf (s .args .b)) (c .refuse .ensures)
     ∙ left-refused (s .args .b) (shape s) (s .args .row) 3
     ∙ taken-unsound (seen s (soundBlock (s .args .b) && s .args .fine)) (s .args .step) e
 
 -- the tables are sound
 sound-all : (e : tie.Else1) → let a = e .before .before .before .before .args in soundBlock (a .b) && a .fine ≡ true
-sound-all e = rw (← e .before .before .survey-of .ensures .sound) (not-false _ (e .if1 .left))
+sound-all e = rw (← says (e .before .before)) (not-false _ (e .if1 .left))
 
 sound-block : (e : tie.Else1) → soundBlock (e .before .before .before .before .args .b) ≡ true
 sound-block e = and-left _ _ (sound-all e)
 
--- so what is taken of sound tables is what is taken
+-- so the survey sees all
+saw : (e : tie.Else1) → let k = e .before .before in let a = k .before .before .args in k .survey-of .result ≡ allSeen (a .b) (a .step .warp) (k .before .barrier-of .result)
+saw e = e .before .before .survey-of .ensures ∙ sees-all _ _ _ (sound-block e)
+
+-- and what is taken of sound tables is what is taken
 on-sound : (e : tie.Else1) → let s = e .before .before .before .before in taken (seen s true) (s .args .step) ≡ taken (seen s (soundBlock (s .args .b) && s .args .fine)) (s .args .step)
 on-sound e = let s = e .before .before .before .before in ap (λ (t : Bool). taken (seen s t) (s .args .step)) (sym (sound-all e))
 
@@ -64,8 +75,7 @@ line-is : (e : tie.Else1) (n : ℕ)
     n ≡ warpLine (e .before .before .survey-of .result .warps) (e .before .before .survey-of .result .warp) (a .step .warp) → n ≡ warpRefusal (a .b) (a .step .warp)
 line-is e n h =
     let a = e .before .before .before .before .args in
-    let saw = e .before .before .survey-of .ensures in
-    h ∙ (λ i. warpLine (saw .warps (sound-block e) i) (saw .warp (sound-block e) i) (a .step .warp)) ∙ row-line (a .b) (a .step .warp)
+    h ∙ (λ i. warpLine (saw e i .warps) (saw e i .warp) (a .step .warp)) ∙ row-line (a .b) (a .step .warp)
 
 enum-told : tie.Need-enum-told
 enum-told c = search needs
@@ -112,14 +122,13 @@ returns-2 c =
     let e = o .before .before .before .before in
     let s = e .before .before .before .before in
     let b = s .args .b in
-    let saw = e .before .before .survey-of .ensures in
     ap (leftOf b) (c .in-block .ensures)
     ∙ left-moved b (s .args .row) (c .before .exit .result) _ (c .before .exit .ensures b (record {
       rows = shape s .rows;
       barriers = refl;
-      warps = sym (saw .warps (sound-block e));
-      live = sym (saw .live (sound-block e));
-      warp = sym (saw .warp (sound-block e));
+      warps = sym (λ i. saw e i .warps);
+      live = sym (λ i. saw e i .live);
+      warp = sym (λ i. saw e i .warp);
     }))
     ∙ rw (o .enum-told .given .1) (sym (taken-exit (seen s true) (s .args .step .warp)))
     ∙ on-sound e
@@ -130,15 +139,14 @@ returns-3 c =
     let e = o .before .before .before .before in
     let s = e .before .before .before .before in
     let b = s .args .b in
-    let saw = e .before .before .survey-of .ensures in
     ap (leftOf b) (c .in-block2 .ensures)
     ∙ left-moved b (s .args .row) (c .before .arrival .result) _ (c .before .arrival .ensures b (record {
       rows = shape s .rows;
       barriers = shape s .barriers;
-      warps = sym (saw .warps (sound-block e));
-      live = sym (saw .live (sound-block e));
-      warp = sym (saw .warp (sound-block e));
-      barrier = sym (saw .barrier (sound-block e) ∙ ap (barrierAt b) (e .before .before .before .barrier-of .ensures ∙ ap barrierOf (o .op .given .1)));
+      warps = sym (λ i. saw e i .warps);
+      live = sym (λ i. saw e i .live);
+      warp = sym (λ i. saw e i .warp);
+      barrier = sym ((λ i. saw e i .barrier) ∙ ap (barrierAt b) (e .before .before .before .barrier-of .ensures ∙ ap barrierOf (o .op .given .1)));
     }))
     ∙ ap (λ (x : Call). blockTaken (s .args .row) (arrival b (s .args .step .warp) (o .op .given .0 .0) x)) (c .before .before .call-of .ensures)
     ∙ rw (o .op .given .1) (sym (taken-barrier (seen s true) (s .args .step .warp) _ _))

@@ -1,5 +1,5 @@
 use mathlib.Core.Path.{_≡_, refl, sym, subst, _∙_}
-use mathlib.Core.Bool.{Bool, true, false, not, _&&_, false≢true}
+use mathlib.Core.Bool.{Bool, true, false, not, _&&_}
 use mathlib.Core.Logic.{⊎-elim}
 use Prim.Native.Nat.{ℕ, _+_, _*_, _%_, _^_, _≤_, _<_, _-_}
 use native.Mathlib.Nat.{le-antisymm}
@@ -9,17 +9,18 @@ use lib.ListN.{length-map}
 use borrow.Author.Needs.{needs}
 use mir.Val.{boolByte}
 use borrow.Author.Tests.{not-true, not-false, leb-true, le-ltb, ltb-true}
-use Rattle.folds.specs.Folds.{all, every}
+use Rattle.folds.specs.Folds.{all}
 use Rattle.folds.proofs.Folds.{and-right, all-none, all-more, all-fails, every-fails}
 use Rattle.sets.specs.Sets.{setOf}
 use Rattle.sets.proofs.Sets.{setOf-more, setOf-fits, setOf-far}
 use Rattle.block.specs.Tables.{freshWarp, idle, warpAt, barrierAt, isExited, waitsPlaced, warpsCounted, liveOf, soundBlock}
+use Rattle.block.specs.declared.Barrier.{Barrier}
 use Rattle.block.specs.declared.Block.{Block}
-use Rattle.soundness.specs.declared.Survey.{Survey}
-use Rattle.soundness.specs.Survey.{Surveyed}
+use Rattle.soundness.specs.Seen.{surveyOf}
 use Rattle.block.proofs.Tables.{past}
+use Rattle.soundness.proofs.Seen.{not-sound, is-sound, seen}
 use Rattle.soundness.proofs.Warps.{FreshTo, own-row, spare-row, all-warps, fresh-more}
-use Rattle.soundness.proofs.Waiters.{Gathered, gathered-none, gathered-kept, waits-here, gathered-more, all-agreeing}
+use Rattle.soundness.proofs.Waiters.{Gathered, gathered-none, gathered-kept, waits-here, gathered-more, all-agreeing, rows-decide}
 use Rattle.soundness.proofs.survey_of.Statement.{statement}
 use Rattle.soundness.proofs.survey_of.Tie as tie
 
@@ -32,18 +33,6 @@ live-all : (b : Block) → b .warps ≤ 32 → setOf (b .warps) (lives b) ≡ li
 live-all b l =
     let size : b .warps + (32 - b .warps) ≡ 32 = omega (arith, l) in
     rw size at (setOf-far (lives b) (b .warps) (32 - b .warps) (λ v a. rw (le-ltb v (b .warps) a)))
-
--- where the tables are not sound, a survey that says so is right, whatever it says of the warps
-not-sound : (b : Block) (w k : ℕ) (r : Survey) → r .sound ≡ false → false ≡ soundBlock b → Surveyed b w k r
-not-sound b w k r says fails =
-    let never : soundBlock b ≡ true → ⊥ = λ holds. false≢true (fails ∙ holds) in
-    record {
-      sound = says ∙ fails;
-      warps = λ holds. absurd (never holds);
-      live = λ holds. absurd (never holds);
-      warp = λ holds. absurd (never holds);
-      barrier = λ holds. absurd (never holds);
-    }
 
 abbrev Inv-loop : tie.InvT-loop
 Inv-loop own named b n spare₀ spare = (n ≤ spare) × (spare ≤ 32) × FreshTo b spare
@@ -66,7 +55,7 @@ unsound-requires c κs = search needs
 
 returns : tie.Need-returns Inv-loop μ-loop Inv-loop2 μ-loop2
 unfolding soundBlock
-returns c = not-sound _ _ _ _ (c .unsound .ensures) (every-fails _ 0 (not-true _ (c .before .if1 .taken)))
+returns c = let a = c .before .before .args in not-sound (a .t1) (a .own) (a .named) (c .unsound .ensures) (every-fails _ 0 (not-true _ (c .before .if1 .taken)))
 
 -- there are at most 32 warps
 few : (c : tie.Else1 Inv-loop μ-loop Inv-loop2 μ-loop2) → c .before .args .t1 .warps ≤ 32
@@ -100,7 +89,7 @@ returns-2 c =
     let b = h .before .before .args .t1 in
     let w = h .loop .spare in
     let fails = sym (p .is-fresh .ensures) ∙ not-true _ (c .before .if2 .taken) in
-    not-sound b _ _ _ (c .unsound2 .ensures) (every-fails _ 1 (all-fails _ 32 w (omega arith) (sym (spare-row (b .warps) w (warpAt b w) (h .loop .inv .0)) ∙ fails)))
+    not-sound b (h .before .before .args .own) (h .before .before .args .named) (c .unsound2 .ensures) (every-fails _ 1 (all-fails _ 32 w (omega arith) (sym (spare-row (b .warps) w (warpAt b w) (h .loop .inv .0)) ∙ fails)))
 
 add-spare : tie.Need-add-spare Inv-loop μ-loop Inv-loop2 μ-loop2
 add-spare c = omega arith
@@ -148,7 +137,7 @@ returns-3 c =
     let w = h .loop2 .w in
     let l : w < b .warps = p .before .before .loop2-test .taken in
     let fails = sym (p .waits-placed .ensures) ∙ not-true _ (c .before .if3 .taken) in
-    not-sound b _ _ _ (c .unsound3 .ensures) (every-fails _ 1 (all-fails _ 32 w (omega (arith, l, few (h .before .before .before))) (sym (own-row (b .warps) w (warpAt b w) l) ∙ fails)))
+    not-sound b (h .before .before .before .before .args .own) (h .before .before .before .before .args .named) (c .unsound3 .ensures) (every-fails _ 1 (all-fails _ 32 w (omega (arith, l, few (h .before .before .before))) (sym (own-row (b .warps) w (warpAt b w) l) ∙ fails)))
 
 is-live-requires : tie.Need-is-live-requires Inv-loop μ-loop Inv-loop2 μ-loop2
 is-live-requires c κs = search needs
@@ -259,6 +248,44 @@ all-spare c v a l = c .before .loop .inv .2 v a (omega (arith, l, c .loop-test .
 at-end : (c : tie.After-loop2 Inv-loop μ-loop Inv-loop2 μ-loop2) → c .before .loop2 .w ≡ c .before .before .before .before .before .args .t1 .warps
 at-end c = le-antisymm (c .before .loop2 .inv .0) (c .loop2-test .left)
 
+rows-agree-requires : tie.Need-rows-agree-requires Inv-loop μ-loop Inv-loop2 μ-loop2
+rows-agree-requires c κs = search needs
+
+abbrev start : tie.After-loop2 Inv-loop μ-loop Inv-loop2 μ-loop2 → tie.Start Inv-loop μ-loop Inv-loop2 μ-loop2
+start p = p .before .before .before .before .before
+
+-- those that were gathered are the warps that have not exited
+alive : (p : tie.After-loop2 Inv-loop μ-loop Inv-loop2 μ-loop2) → p .before .loop2 .alive ≡ liveOf (start p .args .t1)
+alive p =
+    let h = p .before in
+    let b = start p .args .t1 in
+    h .loop2 .inv .2 ∙ subst (λ (m : ℕ). setOf m (lives b) ≡ liveOf b) (sym (at-end p)) (live-all b (few (h .before .before .before)))
+
+-- the block is sound exactly when the rows agree
+agrees : (c : tie.After-rows-agree Inv-loop μ-loop Inv-loop2 μ-loop2) → c .rows-agree .result ≡ soundBlock (start (c .before .before) .args .t1)
+agrees c =
+    let p = c .before .before in
+    let h = p .before in
+    let b = start p .args .t1 in
+    c .rows-agree .ensures
+    ∙ rows-decide
+    b
+    (h .loop2 .alive)
+    (h .loop2 .here)
+    (not-false (warpsCounted b) (h .before .before .before .if1 .left))
+    (all-warps b (all-spare (h .before)) (subst (λ (m : ℕ). all m (λ v. waitsPlaced (warpAt b v .status)) ≡ true) (at-end p) (h .loop2 .inv .1)))
+    (alive p)
+    (all-agreeing b (h .loop2 .here) (all-spare (h .before)) (subst (λ (m : ℕ). Gathered m (h .loop2 .here) b) (at-end p) (h .loop2 .inv .3)))
+
+unsound-requires-4 : tie.Need-unsound-requires-4 Inv-loop μ-loop Inv-loop2 μ-loop2
+unsound-requires-4 c κs = search needs
+
+returns-4 : tie.Need-returns-4 Inv-loop μ-loop Inv-loop2 μ-loop2
+returns-4 c =
+    let g = c .before .before in
+    let a = start (g .before .before) .args in
+    not-sound (a .t1) (a .own) (a .named) (c .unsound4 .ensures) (sym (not-true _ (c .before .if4 .taken)) ∙ agrees g)
+
 mul-warp : tie.Need-mul-warp Inv-loop μ-loop Inv-loop2 μ-loop2
 mul-warp c = search needs
 
@@ -277,44 +304,30 @@ element-copy-out-barrier c = search needs
 idle-row-requires : tie.Need-idle-row-requires Inv-loop μ-loop Inv-loop2 μ-loop2
 idle-row-requires c κs = search needs
 
-rows-agree-requires : tie.Need-rows-agree-requires Inv-loop μ-loop Inv-loop2 μ-loop2
-rows-agree-requires c κs = search needs
-
-abbrev start : tie.After-loop2 Inv-loop μ-loop Inv-loop2 μ-loop2 → tie.Start Inv-loop μ-loop Inv-loop2 μ-loop2
-start p = p .before .before .before .before .before
-
--- the rows that were read are those of the warp and the barrier
-warp-is : (j : tie.Joined4 Inv-loop μ-loop Inv-loop2 μ-loop2) → let a = start (j .before) .args in j .if4 .warp ≡ warpAt (a .t1) (a .own)
+-- the row that was read is the warp's
+warp-is : (j : tie.Joined5 Inv-loop μ-loop Inv-loop2 μ-loop2) → let a = start (j .before .before .before .before) .args in j .if5 .warp ≡ warpAt (a .t1) (a .own)
 warp-is j =
-    let z = start (j .before) in
-    ⊎-elim (λ t. t .2) (λ t. t .2 ∙ t .1 .ensures ∙ past (z .args .t1 .rows) freshWarp 32 (z .args .own) (simp length-map at (z .good .0 .1 .1 .1 .0 .1 .0 .1)) (t .0 .left)) (j .if4 .came)
+    let z = start (j .before .before .before .before) in
+    ⊎-elim (λ t. t .2) (λ t. t .2 ∙ t .1 .ensures ∙ past (z .args .t1 .rows) freshWarp 32 (z .args .own) (simp length-map at (z .good .0 .1 .1 .1 .0 .1 .0 .1)) (t .0 .left)) (j .if5 .came)
 
-barrier-is : (j : tie.Joined5 Inv-loop μ-loop Inv-loop2 μ-loop2) → let a = start (j .before .before) .args in j .if5 .barrier ≡ barrierAt (a .t1) (a .named)
-barrier-is j =
-    let z = start (j .before .before) in
-    ⊎-elim (λ t. t .2) (λ t. t .2 ∙ t .1 .ensures ∙ past (z .args .t1 .barriers) idle 16 (z .args .named) (simp length-map at (z .good .0 .1 .1 .1 .1 .0 .1 .0 .1)) (t .0 .left)) (j .if5 .came)
+-- where all rows agree and the warp's row was read, a survey with the barrier's row says what there is to see
+sees : (j : tie.Joined5 Inv-loop μ-loop Inv-loop2 μ-loop2) (r : Barrier) → let a = start (j .before .before .before .before) .args in r ≡ barrierAt (a .t1) (a .named)
+    → record { sound = true; warps = a .t1 .warps; live = j .before .before .before .before .before .loop2 .alive; warp = j .if5 .warp; barrier = r } ≡ surveyOf (a .t1) (a .own) (a .named)
+sees j r e =
+    let g = j .before .before in
+    let p = g .before .before in
+    let a = start p .args in
+    is-sound (a .t1) (a .own) (a .named) (seen (a .t1) (a .own) (a .named) (alive p) (warp-is j) e) (sym (not-false _ (j .before .if4 .left)) ∙ agrees g)
 
-returns-4 : tie.Need-returns-4 Inv-loop μ-loop Inv-loop2 μ-loop2
-unfolding soundBlock every
-returns-4 c =
+returns-5 : tie.Need-returns-5 Inv-loop μ-loop Inv-loop2 μ-loop2
+returns-5 c = sees (c .before .before) _ refl
+
+returns-6 : tie.Need-returns-6 Inv-loop μ-loop Inv-loop2 μ-loop2
+returns-6 c =
     let j = c .before .before in
-    let p = j .before .before in
-    let h = p .before in
-    let b = start p .args .t1 in
-    let alive : h .loop2 .alive ≡ liveOf b = h .loop2 .inv .2 ∙ subst (λ (m : ℕ). setOf m (lives b) ≡ liveOf b) (sym (at-end p)) (live-all b (few (h .before .before .before))) in
-    record {
-      sound = rw (
-        c .rows-agree .ensures,
-        alive,
-        all-agreeing b (h .loop2 .here) (all-spare (h .before)) (subst (λ (m : ℕ). Gathered m (h .loop2 .here) b) (at-end p) (h .loop2 .inv .3)),
-        not-false (warpsCounted b) (h .before .before .before .if1 .left),
-        all-warps b (all-spare (h .before)) (subst (λ (m : ℕ). all m (λ v. waitsPlaced (warpAt b v .status)) ≡ true) (at-end p) (h .loop2 .inv .1)),
-      );
-      warps = λ _. refl;
-      live = λ _. alive;
-      warp = λ _. warp-is (j .before);
-      barrier = λ _. barrier-is j;
-    }
+    let z = start (j .before .before .before .before) in
+    let many = simp length-map at (z .good .0 .1 .1 .1 .1 .0 .1 .0 .1) in
+    sees j _ (c .idle-row .ensures ∙ past (z .args .t1 .barriers) idle 16 (z .args .named) many (c .before .if6 .left))
 
 pub survey-of-spec : {M : Type 1} → statement M
 survey-of-spec =
@@ -361,11 +374,14 @@ survey-of-spec =
     add-w
     loop2-less
     loop2-again
+    rows-agree-requires
+    unsound-requires-4
+    returns-4
     mul-warp
     element-copy-out-warp
     fresh-warp-requires
     mul-barrier
     element-copy-out-barrier
     idle-row-requires
-    rows-agree-requires
-    returns-4)
+    returns-5
+    returns-6)

@@ -8,7 +8,7 @@ use Rattle.folds.specs.Folds.{firsts}
 use Rattle.folds.proofs.Folds.{firsts-more}
 use Rattle.sets.specs.Sets.{has}
 use Rattle.block.specs.Tables.{freshWarp}
-use Rattle.block.specs.Rows.{releasedWarp}
+use Rattle.barrier_row.specs.Rows.{releasedWarp}
 use Rattle.whole_step.proofs.release.Statement.{statement}
 use Rattle.whole_step.proofs.release.Tie as tie
 
