@@ -1,4 +1,5 @@
-// Times the checker and the quick engine on the same traces in one run.
+// Times the checker and the quick engine on the same traces, and prints what bench/run puts together:
+// a line for each trace with its name, its steps and the nanoseconds a step of each engine; or peak memory.
 #include <sys/resource.h>
 #include <sys/wait.h>
 #include <unistd.h>
@@ -6,6 +7,7 @@
 #include <algorithm>
 #include <cstdint>
 #include <cstdio>
+#include <cstdlib>
 #include <ctime>
 #include <functional>
 #include <memory>
@@ -22,7 +24,6 @@ using Bytes = std::vector<std::uint8_t>;
 
 constexpr std::size_t longest_trace = 65536;
 constexpr std::size_t lengths[] = {1000, 8000, 32000};
-constexpr int all_runs = 60, few_runs = 3;
 
 struct Trace {
   Bytes bytes;
@@ -169,29 +170,27 @@ void print_peaks(const Trace &trace) {
 
 }  // namespace
 
-// With the word short as its argument it makes few runs.
+// With the word memory as its argument it prints peak memory, else the times, the best of so many runs.
 int main(int argc, char **argv) {
-  const int runs = argc == 2 && argv[1] == std::string_view("short") ? few_runs : all_runs;
+  const std::string_view word = argc == 2 ? argv[1] : "1";
+  if (word == "memory") {
+    print_peaks(mixed(lengths[2]));
+    return 0;
+  }
+  const int runs = std::max(1, std::atoi(word.data()));
   const std::vector<Check> checks = {checker, by_rows, by_masks};
   const std::pair<const char *, Trace (*)(std::size_t)> workloads[] = {
       {"barriers", barriers}, {"held", held}, {"objects", objects}, {"mixed", mixed}};
-  print_peaks(mixed(lengths[2]));
-  std::printf(
-      "nanoseconds a step, best of %d; steps as far as %zu bytes hold them\n"
-      "                 checker  C++, 16x32 rows     C++, masks\n"
-      "trace     steps             and ratio         and ratio\n",
-      runs, longest_trace);
   for (const auto &[name, make] : workloads)
     for (const std::size_t length : lengths) {
       const Trace trace = make(length);
       const Bytes text = text_of(checker, trace);
       if (text != text_of(by_rows, trace) || text != text_of(by_masks, trace)) {
-        std::printf("FAILED: the texts differ\n");
+        std::fprintf(stderr, "FAILED: %s, %zu steps: the texts differ\n", name, trace.steps);
         return 1;
       }
       const std::vector<double> best = times(checks, trace, runs);
-      std::printf("%-8s %6zu %8.0f %10.0f %6.2f %8.0f %6.2f\n", name, trace.steps, best[0], best[1],
-                  best[0] / best[1], best[2], best[0] / best[2]);
+      std::printf("%s %zu %.0f %.0f %.0f\n", name, trace.steps, best[0], best[1], best[2]);
     }
   return 0;
 }
