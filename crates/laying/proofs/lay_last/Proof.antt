@@ -1,4 +1,4 @@
--- `text::lay_last` meets its contract: with the line of a 1 or 2 and without it.
+-- `laying::lay_last` meets its contract: with the line of a 1 or 2 and without it.
 -- Assumes nothing.
 use mathlib.Core.Path.{ap}
 use native.Mathlib.Omega.{arith}
@@ -8,9 +8,9 @@ use Rattle.block.specs.declared.Verdict.the-variants.{Refused}
 use Rattle.lines.proofs.Lines.{line-most, end-most}
 use Rattle.runs.specs.Runs.{numberIn}
 use Rattle.looking.specs.declared.Laying.{Laying}
-use Rattle.text.proofs.Buffer.{last-end, last-stop}
-use Rattle.text.proofs.lay_last.Statement.{statement}
-use Rattle.text.proofs.lay_last.Tie as tie
+use Rattle.laying.proofs.Buffer.{last-end, last-stop}
+use Rattle.laying.proofs.lay_last.Statement.{statement}
+use Rattle.laying.proofs.lay_last.Tie as tie
 
 lay-line-requires : tie.Need-lay-line-requires
 lay-line-requires c κs = search needs

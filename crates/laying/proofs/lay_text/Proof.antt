@@ -1,4 +1,4 @@
--- `text::lay_text` meets its contract: a trace refused before its steps has two lines, and any other is laid step by step.
+-- `laying::lay_text` meets its contract: a trace refused before its steps has two lines, and any other is laid step by step.
 -- Assumes nothing.
 use mathlib.Core.Path.{_≡_, sym, ap, _∙_, subst}
 use Prim.Native.Nat.{ℕ, _+_, _≤_}
@@ -10,12 +10,12 @@ use Rattle.fields.specs.Num.{laid}
 use Rattle.block.specs.declared.Verdict.the-variants.{Refused}
 use Rattle.lines.specs.Lines.{lineOf, endOf}
 use Rattle.printed.specs.Text.{textOfRefused, textOf}
-use Rattle.text.specs.Buffer.{Lays}
+use Rattle.laying.specs.Buffer.{Lays}
 use Rattle.printed.proofs.Text.{text-refused}
 use Rattle.printed.proofs.Turns.{begins}
-use Rattle.text.proofs.Buffer.{text-small, laid-two}
-use Rattle.text.proofs.lay_text.Statement.{statement}
-use Rattle.text.proofs.lay_text.Tie as tie
+use Rattle.laying.proofs.Buffer.{text-small, laid-two}
+use Rattle.laying.proofs.lay_text.Statement.{statement}
+use Rattle.laying.proofs.lay_text.Tie as tie
 
 -- the two lines of a trace that is refused
 abbrev entered : tie.After-put-end → tie.Start

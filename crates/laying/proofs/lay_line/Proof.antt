@@ -1,4 +1,4 @@
--- `text::lay_line` meets its contract: the line is no longer than the longest.
+-- `laying::lay_line` meets its contract: the line is no longer than the longest.
 -- Assumes nothing.
 use mathlib.Core.Path.{ap, _∙_}
 use Prim.Native.Nat.{ℕ, _+_}
@@ -9,8 +9,8 @@ use denote.Ref.{now}
 use Rattle.fields.specs.Num.{laid}
 use Rattle.lines.specs.Lines.{lineOf}
 use Rattle.lines.proofs.Lines.{line-most}
-use Rattle.text.proofs.lay_line.Statement.{statement}
-use Rattle.text.proofs.lay_line.Tie as tie
+use Rattle.laying.proofs.lay_line.Statement.{statement}
+use Rattle.laying.proofs.lay_line.Tie as tie
 
 number-in-requires : tie.Need-number-in-requires
 number-in-requires c κs = search needs

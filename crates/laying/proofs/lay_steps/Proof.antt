@@ -1,4 +1,4 @@
--- `text::lay_steps` meets its contract: the turns of fresh tables, and what follows the last step.
+-- `laying::lay_steps` meets its contract: the turns of fresh tables, and what follows the last step.
 -- Assumes nothing.
 use mathlib.Core.Path.{ap, _∙_}
 use native.Mathlib.Omega.{arith}
@@ -6,9 +6,9 @@ use borrow.Author.Needs.{needs}
 use denote.Ref.{now}
 use Rattle.runs.specs.Runs.{startOf}
 use Rattle.looking.specs.declared.Laying.{Laying}
-use Rattle.text.proofs.Buffer.{text-small, lays-all}
-use Rattle.text.proofs.lay_steps.Statement.{statement}
-use Rattle.text.proofs.lay_steps.Tie as tie
+use Rattle.laying.proofs.Buffer.{text-small, lays-all}
+use Rattle.laying.proofs.lay_steps.Statement.{statement}
+use Rattle.laying.proofs.lay_steps.Tie as tie
 
 fresh-owned-requires : tie.Need-fresh-owned-requires
 fresh-owned-requires c κs = search needs
