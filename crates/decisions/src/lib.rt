@@ -128,13 +128,10 @@ pub fn decide(b: Block, fine: bool, row: Object, step: Step) -> Decided
     match op {
         Op::Exit => {
             let barriers = b.barriers;
-            in_block(
-                barriers::exit(whole.warps, whole.live, warp, barriers, w),
-                row,
-            )
+            in_block(exits::exit(whole.warps, whole.live, warp, barriers, w), row)
         }
         Op::Barrier(k, s) => in_block(
-            barriers::arrival(
+            arrivals::arrival(
                 whole.warps,
                 whole.live,
                 warp,

@@ -3,10 +3,10 @@ use lib.ListN.{length}
 use borrow.Author.Needs.{needs}
 use Rattle.block.specs.declared.Barrier.{Barrier}
 use Rattle.block.specs.declared.Status.the-variants.{Exited}
 use Rattle.barriers.specs.Changes.{made, goingOn}
 use Rattle.barriers.proofs.Changes.{seen-no-exit, seen-exit-completes, seen-exit-alone}
-use Rattle.barriers.proofs.exit.Statement.{statement}
-use Rattle.barriers.proofs.exit.Tie as tie
+use Rattle.exits.proofs.exit.Statement.{statement}
+use Rattle.exits.proofs.exit.Tie as tie
 
 warp-refusal-requires : tie.Need-warp-refusal-requires
 warp-refusal-requires c κs = search needs

@@ -1,9 +1,9 @@
 use mathlib.Core.Path.{sym, ap, _∙_}
 use borrow.Author.Needs.{needs}
 use Rattle.barriers.specs.Changes.{made}
 use Rattle.barriers.proofs.Changes.{seen-warp, seen-6, seen-call, seen-completes, seen-waits, seen-arrives}
-use Rattle.barriers.proofs.arrival.Statement.{statement}
-use Rattle.barriers.proofs.arrival.Tie as tie
+use Rattle.arrivals.proofs.arrival.Statement.{statement}
+use Rattle.arrivals.proofs.arrival.Tie as tie
 
 warp-refusal-requires : tie.Need-warp-refusal-requires
 warp-refusal-requires c κs = search needs

@@ -7,9 +7,9 @@ use Rattle.folds.specs.Folds.{first, every}
 use Rattle.folds.proofs.Folds.{first-none, first-found, first-end}
 use Rattle.sets.specs.Sets.{put, part}
 use Rattle.block.specs.Tables.{idle}
 use Rattle.barriers.specs.Changes.{opensFor}
-use Rattle.barriers.proofs.opened.Statement.{statement}
-use Rattle.barriers.proofs.opened.Tie as tie
+use Rattle.exits.proofs.opened.Statement.{statement}
+use Rattle.exits.proofs.opened.Tie as tie
 
 abbrev Inv-loop : tie.InvT-loop
 Inv-loop alive w barriers k₀ k = (k ≤ 16) × (first k (λ j. opensFor (getD barriers j idle) alive w) ≡ k)

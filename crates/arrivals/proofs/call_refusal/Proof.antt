@@ -1,9 +1,9 @@
 use mathlib.Core.Path.{_∙_, sym}
 use borrow.Author.Tests.{eq-eqb, ne-eqb}
 use borrow.Author.Needs.{needs}
 use Rattle.barriers.proofs.Steps.{line-7, line-8, line-9, line-10, no-line}
-use Rattle.barriers.proofs.call_refusal.Statement.{statement}
-use Rattle.barriers.proofs.call_refusal.Tie as tie
+use Rattle.arrivals.proofs.call_refusal.Statement.{statement}
+use Rattle.arrivals.proofs.call_refusal.Tie as tie
 
 bad-count-requires : tie.Need-bad-count-requires
 bad-count-requires c κs = search needs

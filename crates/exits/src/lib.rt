@@ -1,0 +1,52 @@
+// Exit: the barrier that completes without the warp, and what an exit changes in the block.
+use barriers::Moved;
+use block::BARRIER_COUNT;
+use block::Barrier;
+use block::Status;
+use block::Warp;
+ghost use mathlib.Core.Path.{_≡_};
+ghost use Rattle.barriers.specs.Changes.{firstOpening, Exits};
+
+// The barrier that completes when warp w exits, where those of alive have not exited before, and 16 if none does.
+fn opened(barriers: [Barrier; BARRIER_COUNT as usize], alive: u32, w: u8) -> u8
+    ensures { λ r. ⌜ r ≡ firstOpening barriers alive w ⌝ }
+{
+    let mut k: u8 = 0;
+    while k < BARRIER_COUNT {
+        let r = barriers[k as usize];
+        let f = r.form;
+        let there = sets::put(r.arrived, w);
+        if !(block::form_number(f) == 0) & (r.threads == 0) & sets::part(alive, there) {
+            break;
+        }
+        k += 1;
+    }
+    k
+}
+
+// Exit: what the exit of warp w changes in any block of so many warps, of which those of alive have not exited, where this is the row of the warp and these are the rows of the barriers.
+pub fn exit(
+    warps: u8,
+    alive: u32,
+    warp: Warp,
+    barriers: [Barrier; BARRIER_COUNT as usize],
+    w: u8,
+) -> Moved
+    ensures { λ m. ⌜ Exits warps alive warp barriers w m ⌝ }
+{
+    let n = barriers::warp_refusal(warps, warp, w);
+    if n != 0 {
+        return barriers::refuse(n);
+    }
+    let k = opened(barriers, alive, w);
+    if k < BARRIER_COUNT {
+        let r = barriers[k as usize];
+        return barriers::complete(w as usize, Status::Exited, k as usize, r);
+    }
+    barriers::go_on(
+        w as usize,
+        Status::Exited,
+        BARRIER_COUNT as usize,
+        block::idle_row(),
+    )
+}
