@@ -1,23 +1,16 @@
-// The tables that the caller lends, a list of object rows and a tally: whether they are sound, which row a step names, and fresh tables.
+// The tables that the caller lends: whether block and list are sound, and which row a step names.
 use block::Block;
-use block::Turn;
-use block::Verdict;
 use object::Object;
-use rows::SLOTS;
 use steps::Step;
-use tables::Tally;
 ghost use mathlib.Core.Path.{_≡_};
-ghost use Rattle.tables.specs.Tables.{soundTables, slotOf, freshTally};
-ghost use Rattle.lent.specs.Entries.{tablesOf, freshRefusal, freshTurn, Freshened};
-
-// A block has at most 32 warps.
-const MOST_WARPS: u8 = 32;
+ghost use Rattle.tables.specs.Tables.{soundTables, slotOf};
+ghost use Rattle.lent.specs.Entries.{tablesOf};
 
 // Whether the tables of this block and this list are sound.
 pub fn sound(b: Block, objects: &[Object]) -> bool
     ensures { λ r. ⌜ r ≡ soundTables (tablesOf b (now (objects .entry))) ⌝ }
 {
-    soundness::sound(b) & rows::rows_sound(objects)
+    soundness::sound(b) & all_rows::rows_sound(objects)
 }
 
 // The row that a step names.
@@ -26,62 +19,4 @@ pub fn slot(s: Step) -> usize
 {
     let op = s.op;
     tables::slot_of(op)
-}
-
-// The lowest line that refuses fresh tables over so many records, and 0 if none does.
-pub fn fresh_refusal(rows: usize, warps: u8) -> u8
-    ensures { λ r. ⌜ r ≡ freshRefusal rows warps ⌝ }
-{
-    if rows != SLOTS {
-        return 3;
-    }
-    if (warps == 0) | (MOST_WARPS < warps) {
-        return 4;
-    }
-    0
-}
-
-// The answer to whoever asks for fresh tables, where the refusal number is n.
-pub fn fresh_turn(n: u8, warps: u8) -> Turn
-    ensures { λ r. ⌜ r ≡ freshTurn n warps ⌝ }
-{
-    if n != 0 {
-        let block = block::fresh(0);
-        return Turn {
-            verdict: Verdict::Refused(n),
-            block,
-        };
-    }
-    let block = block::fresh(warps);
-    Turn {
-        verdict: Verdict::Accepted {
-            value: 0,
-            done: false,
-            released: 0,
-        },
-        block,
-    }
-}
-
-// A tally of zeros.
-pub fn fresh_tally() -> Tally
-    ensures { λ r. ⌜ r ≡ freshTally ⌝ }
-{
-    Tally {
-        accepted: 0,
-        refused: 0,
-    }
-}
-
-// Fresh tables for a number of warps; refused, they leave list and tally.
-pub fn fresh(objects: &mut [Object], tally: &mut Tally, warps: u8) -> Turn
-    ensures { λ r. ⌜ Freshened (now (objects .entry)) (now (tally .entry)) warps r (now (objects .exit)) (now (tally .exit)) ⌝ }
-{
-    let n = fresh_refusal(objects.len(), warps);
-    if n != 0 {
-        return fresh_turn(n, warps);
-    }
-    rows::fresh_rows(objects);
-    *tally = fresh_tally();
-    fresh_turn(n, warps)
 }

@@ -10,7 +10,7 @@ ghost use Rattle.lent.specs.Entries.{stateOf, Stepped};
 pub fn step(b: &mut Block, objects: &mut [Object], tally: &mut Tally, s: Step) -> Verdict
     ensures { λ r. ⌜ Stepped (stateOf (now (b .entry)) (now (objects .entry)) (now (tally .entry))) s r (now (b .exit)) (now (objects .exit)) (now (tally .exit)) ⌝ }
 {
-    let fine = rows::rows_sound(objects);
+    let fine = all_rows::rows_sound(objects);
     let at = lent::slot(s);
     let row = rows::row_at(objects, at);
     let d = decisions::decide(*b, fine, row, s);

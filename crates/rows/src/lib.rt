@@ -1,31 +1,14 @@
-// Walks over the list of object rows and the tally that the caller lends: a row is copied or stored, and the tally counts a verdict in place.
+// One row of the list of object rows that the caller lends, copied or stored, and the tally, which counts a verdict in place.
 use block::Verdict;
 use object::Object;
 use tables::Tally;
 ghost use mathlib.Core.Path.{_≡_};
-ghost use lib.ListN.{length, getD, set, replicate};
+ghost use lib.ListN.{getD, set};
 ghost use Rattle.object.specs.Row.{dead};
-ghost use Rattle.tables.specs.Tables.{soundObjects, tallied};
+ghost use Rattle.tables.specs.Tables.{tallied};
 
 // How many records the list has.
 pub const SLOTS: usize = 64;
-
-// Whether the list has 64 records and each is sound; the first that is not ends the check.
-pub fn rows_sound(objects: &[Object]) -> bool
-    ensures { λ r. ⌜ r ≡ soundObjects (now (objects .entry)) ⌝ }
-{
-    if objects.len() != SLOTS {
-        return false;
-    }
-    let mut i: usize = 0;
-    while i < SLOTS {
-        if !object::sound(objects[i]) {
-            return false;
-        }
-        i += 1;
-    }
-    true
-}
 
 // A copy of row i, and of the dead row past the end.
 pub fn row_at(objects: &[Object], i: usize) -> Object
@@ -45,19 +28,6 @@ pub fn put_row(objects: &mut [Object], i: usize, row: Object)
         return;
     }
     objects[i] = row;
-}
-
-// Makes every row dead.
-pub fn fresh_rows(objects: &mut [Object])
-    ensures { λ _. ⌜ now (objects .exit) ≡ replicate (length (now (objects .entry))) dead ⌝ }
-{
-    let n = objects.len();
-    let row = object::dead();
-    let mut i: usize = 0;
-    while i < n {
-        objects[i] = row;
-        i += 1;
-    }
 }
 
 // One more accepted or refused, in place.

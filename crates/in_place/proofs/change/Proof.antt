@@ -60,18 +60,18 @@ use Rattle.barriers.proofs.Change.Laws as N′
 use Rattle.rows.proofs.Walk.{gone1, concluded, over}
 use Rattle.rows.proofs.Lend.{calls-lending}
 use Rattle.in_place.proofs.Field.{array-lent, array-lent-back, Barriers, Rows, barriers-kept, barriers-out, barriers-in, rows-kept, rows-out, rows-in}
-use Rattle.in_place.proofs.put_barrier as put-barrier
-use Rattle.in_place.proofs.put_barrier.Symbol as put-barrier-def
-use Rattle.in_place.proofs.put_barrier.Symbol.{name as #in-place·put-barrier}
-use Rattle.in_place.proofs.put_barrier.Met as put-barrier-thm
-use Rattle.in_place.proofs.put_status as put-status
-use Rattle.in_place.proofs.put_status.Symbol as put-status-def
-use Rattle.in_place.proofs.put_status.Symbol.{name as #in-place·put-status}
-use Rattle.in_place.proofs.put_status.Met as put-status-thm
-use Rattle.in_place.proofs.release as release
-use Rattle.in_place.proofs.release.Symbol as release-def
-use Rattle.in_place.proofs.release.Symbol.{name as #in-place·release}
-use Rattle.in_place.proofs.release.Met as release-thm
+use Rattle.block_rows.proofs.put_barrier as put-barrier
+use Rattle.block_rows.proofs.put_barrier.Symbol as put-barrier-def
+use Rattle.block_rows.proofs.put_barrier.Symbol.{name as #block-rows·put-barrier}
+use Rattle.block_rows.proofs.put_barrier.Met as put-barrier-thm
+use Rattle.block_rows.proofs.put_status as put-status
+use Rattle.block_rows.proofs.put_status.Symbol as put-status-def
+use Rattle.block_rows.proofs.put_status.Symbol.{name as #block-rows·put-status}
+use Rattle.block_rows.proofs.put_status.Met as put-status-thm
+use Rattle.released.proofs.release as release
+use Rattle.released.proofs.release.Symbol as release-def
+use Rattle.released.proofs.release.Symbol.{name as #released·release}
+use Rattle.released.proofs.release.Met as release-thm
 use Rattle.in_place.proofs.change.Key.{name as #in-place·change}
 use Rattle.in_place.proofs.change as change
 use Rattle.in_place.proofs.change.Statement as stated
@@ -92,9 +92,9 @@ module _ {M : Type 1} (𝓤 : URA M) (H : Heap 𝓤) (A : Atoms 𝓤) (at-mem : 
   Release = tripleOf 𝓤 H A release.signature (release.spec 𝓤 H A at-mem run)
 
   pub record Known (C : Calls 𝓤 H) : Type 1 where
-    pub put-barrier : Triple 𝓤 (C #in-place·put-barrier) PutBarrier
-    pub put-status : Triple 𝓤 (C #in-place·put-status) PutStatus
-    pub release : Triple 𝓤 (C #in-place·release) Release
+    pub put-barrier : Triple 𝓤 (C #block-rows·put-barrier) PutBarrier
+    pub put-status : Triple 𝓤 (C #block-rows·put-status) PutStatus
+    pub release : Triple 𝓤 (C #released·release) Release
 
 -- where a block has its arrays, and that there is room for them; said here, so that the walk does not measure them
 rows-at : fieldOf B′.mir 1 ≡ some (tyArray U′.mir 32, 4)
@@ -214,7 +214,7 @@ change-spec 𝓤 H 𝓜 𝓖 𝓡 =
     concluded 𝓤 H 𝓜 𝓖 𝓡 code.env change.ended stayed (goes-ref 𝓤 H (𝓖 .A) (givenOf 𝓤 H 𝓜 𝓖) 1 0 tt (plain (λ _. B.the-row)), (goes-none 𝓤 H (𝓖 .A) (givenOf 𝓤 H 𝓜 𝓖) 1 (λ _. N.the-row) yes (λ κs x f. refl), tt))
     (change.clauses 𝓤 H (𝓖 .A) (𝓜 .mem) (𝓡 .run)) #in-place·change code.function (code.unfolded 𝓤 H 𝓜 𝓡)
     (change-walks 𝓤 H (𝓖 .A) (givenOf 𝓤 H 𝓜 𝓖) (𝓜 .mem) (𝓡 .run) (over 𝓤 H 𝓜 𝓖 𝓡 code.env) (record {
-      put-barrier = cited 𝓤 H (PutBarrier 𝓤 H (𝓖 .A) (𝓜 .mem) (𝓡 .run)) 𝓜 𝓡 code.env #in-place·put-barrier put-barrier-def.routine code.calls-in-place·put-barrier (put-barrier-thm.met 𝓤 H 𝓜 𝓖 𝓡);
-      put-status = cited 𝓤 H (PutStatus 𝓤 H (𝓖 .A) (𝓜 .mem) (𝓡 .run)) 𝓜 𝓡 code.env #in-place·put-status put-status-def.routine code.calls-in-place·put-status (put-status-thm.met 𝓤 H 𝓜 𝓖 𝓡);
-      release = cited 𝓤 H (Release 𝓤 H (𝓖 .A) (𝓜 .mem) (𝓡 .run)) 𝓜 𝓡 code.env #in-place·release release-def.routine code.calls-in-place·release (release-thm.met 𝓤 H 𝓜 𝓖 𝓡);
+      put-barrier = cited 𝓤 H (PutBarrier 𝓤 H (𝓖 .A) (𝓜 .mem) (𝓡 .run)) 𝓜 𝓡 code.env #block-rows·put-barrier put-barrier-def.routine code.calls-block-rows·put-barrier (put-barrier-thm.met 𝓤 H 𝓜 𝓖 𝓡);
+      put-status = cited 𝓤 H (PutStatus 𝓤 H (𝓖 .A) (𝓜 .mem) (𝓡 .run)) 𝓜 𝓡 code.env #block-rows·put-status put-status-def.routine code.calls-block-rows·put-status (put-status-thm.met 𝓤 H 𝓜 𝓖 𝓡);
+      release = cited 𝓤 H (Release 𝓤 H (𝓖 .A) (𝓜 .mem) (𝓡 .run)) 𝓜 𝓡 code.env #released·release release-def.routine code.calls-released·release (release-thm.met 𝓤 H 𝓜 𝓖 𝓡);
     }))

@@ -47,10 +47,10 @@ use Rattle.soundness.proofs.sound.Symbol.{name as #soundness·sound}
 use Rattle.soundness.proofs.sound.Met as block-sound-thm
 use Rattle.tables.specs.Tables.{soundObjects}
 use Rattle.rows.proofs.Walk.{calls-exact, gone1, concluded, over}
-use Rattle.rows.proofs.rows_sound as rows-sound
-use Rattle.rows.proofs.rows_sound.Symbol as rows-sound-def
-use Rattle.rows.proofs.rows_sound.Symbol.{name as #rows·rows-sound}
-use Rattle.rows.proofs.rows_sound.Met as rows-sound-thm
+use Rattle.all_rows.proofs.rows_sound as rows-sound
+use Rattle.all_rows.proofs.rows_sound.Symbol as rows-sound-def
+use Rattle.all_rows.proofs.rows_sound.Symbol.{name as #all-rows·rows-sound}
+use Rattle.all_rows.proofs.rows_sound.Met as rows-sound-thm
 use Rattle.rows.proofs.Lend.{rows-shared, rows-shared-back, calls-lending}
 use Rattle.lent.proofs.sound.Key.{name as #lent·sound}
 use Rattle.lent.proofs.sound as sound
@@ -86,7 +86,7 @@ module _ {M : Type 1} (𝓤 : URA M) (H : Heap 𝓤) (A : Atoms 𝓤) (W : Given
       nothing ! $ move ! (1 ∷ 0 ∷ []) $ join ! $ nothing ! $ move ! (2 ∷ 0 ∷ []) $ fjoin ! $ owned ! B.the-row (Is B.the-row) (LL.makes B.the-type B′.the-plain 𝓤 H A) d _ is-d $ fjoin ! $
       move ! (1 ∷ 0 ∷ []) $ frame ! $ frame ! $ owned ! Boolean (Is Boolean) (bool-makes 𝓤 H A W) (soundBlock d && soundObjects ys) _ refl $ done !
 
-  module _ (C : Calls 𝓤 H) (Λ : Loops 𝓤 H) (fm : FmC 𝓤 H (W .laws) C) (known-block : Triple 𝓤 (C #soundness·sound) (BlockSound 𝓤 H A mem run)) (known-rows : Triple 𝓤 (C #rows·rows-sound) (RowsSound 𝓤 H A mem run)) where
+  module _ (C : Calls 𝓤 H) (Λ : Loops 𝓤 H) (fm : FmC 𝓤 H (W .laws) C) (known-block : Triple 𝓤 (C #soundness·sound) (BlockSound 𝓤 H A mem run)) (known-rows : Triple 𝓤 (C #all-rows·rows-sound) (RowsSound 𝓤 H A mem run)) where
     walk : ent 𝓤 (onEntry 𝓤 H A sound.signature (κ, tt) (q, tt) x at) (WpFn 𝓤 H C Λ code.function (LL.val B.the-type B′.the-laws d ∷ sliceVal (b, o) (length ys) ∷ []) Post)
     walk =
         qed W ((‵ (flft κ q) ⊛ ‵ ftrue) ∷ ‵ (owns (B.the-row ∷ ShrSlice (named 0) κ O.the-row ∷ []) x at) ∷ []) ∵ enter ! C Λ code.function (LL.val B.the-type B′.the-laws d ∷ sliceVal (b, o) (length ys) ∷ []) _ $
@@ -105,7 +105,7 @@ module _ {M : Type 1} (𝓤 : URA M) (H : Heap 𝓤) (A : Atoms 𝓤) (W : Given
         move ! (3 ∷ 1 ∷ []) $ fjoin ! $ move ! (3 ∷ 0 ∷ []) $ fjoin ! $ keep ! (1 ∷ 0 ∷ []) $ by ! exits))))))))
 
 module _ {M : Type 1} (𝓤 : URA M) (H : Heap 𝓤) (A : Atoms 𝓤) (W : Given 𝓤 H A) (mem : Memory → SProp 𝓤) (run : Routine → Fun 𝓤) (𝓣 : Tables 𝓤 H) where
-  sound-walks : Triple 𝓤 (𝓣 .C #soundness·sound) (BlockSound 𝓤 H A mem run) → Triple 𝓤 (𝓣 .C #rows·rows-sound) (RowsSound 𝓤 H A mem run) → Walks 𝓤 H A sound.ended stayed (WpFn 𝓤 H (𝓣 .C) (𝓣 .Λ) code.function) (sound.clauses 𝓤 H A mem run)
+  sound-walks : Triple 𝓤 (𝓣 .C #soundness·sound) (BlockSound 𝓤 H A mem run) → Triple 𝓤 (𝓣 .C #all-rows·rows-sound) (RowsSound 𝓤 H A mem run) → Walks 𝓤 H A sound.ended stayed (WpFn 𝓤 H (𝓣 .C) (𝓣 .Λ) code.function) (sound.clauses 𝓤 H A mem run)
   sound-walks known-block known-rows = walked 𝓤 H A sound.ended stayed (sound.clauses 𝓤 H A mem run) (WpFn 𝓤 H (𝓣 .C) (𝓣 .Λ) code.function)
       (λ κs. (LL.vals B.the-type B′.the-laws, (slice-vals, tt))) (λ κs. (LL.tells B.the-type B′.the-laws, (shr-slice-tells (named 0) (κs .0) O.the-row, tt)))
       (λ κs qs bounds a g are. via 𝓤 _ (fst∗ 𝓤 _ (emp 𝓤))
@@ -118,4 +118,4 @@ sound-spec 𝓤 H 𝓜 𝓖 𝓡 =
     (sound.clauses 𝓤 H (𝓖 .A) (𝓜 .mem) (𝓡 .run)) #lent·sound code.function (code.unfolded 𝓤 H 𝓜 𝓡)
     (sound-walks 𝓤 H (𝓖 .A) (givenOf 𝓤 H 𝓜 𝓖) (𝓜 .mem) (𝓡 .run) (over 𝓤 H 𝓜 𝓖 𝓡 code.env)
     (cited 𝓤 H (BlockSound 𝓤 H (𝓖 .A) (𝓜 .mem) (𝓡 .run)) 𝓜 𝓡 code.env #soundness·sound block-sound-def.routine code.calls-soundness·sound (block-sound-thm.met 𝓤 H 𝓜 𝓖 𝓡))
-    (cited 𝓤 H (RowsSound 𝓤 H (𝓖 .A) (𝓜 .mem) (𝓡 .run)) 𝓜 𝓡 code.env #rows·rows-sound rows-sound-def.routine code.calls-rows·rows-sound (rows-sound-thm.met 𝓤 H 𝓜 𝓖 𝓡)))
+    (cited 𝓤 H (RowsSound 𝓤 H (𝓖 .A) (𝓜 .mem) (𝓡 .run)) 𝓜 𝓡 code.env #all-rows·rows-sound rows-sound-def.routine code.calls-all-rows·rows-sound (rows-sound-thm.met 𝓤 H 𝓜 𝓖 𝓡)))

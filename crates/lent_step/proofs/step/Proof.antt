@@ -79,10 +79,10 @@ use Rattle.decisions.proofs.decide.Symbol as decide-def
 use Rattle.decisions.proofs.decide.Symbol.{name as #decisions·decide}
 use Rattle.decisions.proofs.decide.Met as decide-thm
 use Rattle.rows.proofs.Walk.{says-too, calls-saying, calls-exact, gone1, concluded, over}
-use Rattle.rows.proofs.rows_sound as rows-sound
-use Rattle.rows.proofs.rows_sound.Symbol as rows-sound-def
-use Rattle.rows.proofs.rows_sound.Symbol.{name as #rows·rows-sound}
-use Rattle.rows.proofs.rows_sound.Met as rows-sound-thm
+use Rattle.all_rows.proofs.rows_sound as rows-sound
+use Rattle.all_rows.proofs.rows_sound.Symbol as rows-sound-def
+use Rattle.all_rows.proofs.rows_sound.Symbol.{name as #all-rows·rows-sound}
+use Rattle.all_rows.proofs.rows_sound.Met as rows-sound-thm
 use Rattle.rows.proofs.row_at as row-at
 use Rattle.rows.proofs.row_at.Symbol as row-at-def
 use Rattle.rows.proofs.row_at.Symbol.{name as #rows·row-at}
@@ -133,7 +133,7 @@ module _ {M : Type 1} (𝓤 : URA M) (H : Heap 𝓤) (A : Atoms 𝓤) (at-mem : 
   Changes = tripleOf 𝓤 H A change.signature (change.spec 𝓤 H A at-mem run)
 
   pub record Known (C : Calls 𝓤 H) : Type 1 where
-    pub rows-sound : Triple 𝓤 (C #rows·rows-sound) RowsSound
+    pub rows-sound : Triple 𝓤 (C #all-rows·rows-sound) RowsSound
     pub slot : Triple 𝓤 (C #lent·slot) Slot
     pub row-at : Triple 𝓤 (C #rows·row-at) RowAt
     pub decide : Triple 𝓤 (C #decisions·decide) Decide
@@ -310,7 +310,7 @@ step-spec 𝓤 H 𝓜 𝓖 𝓡 =
     (goes-ref 𝓤 H (𝓖 .A) (givenOf 𝓤 H 𝓜 𝓖) 3 0 tt (plain (λ _. B.the-row)), (goes-slice 𝓤 H (𝓖 .A) (givenOf 𝓤 H 𝓜 𝓖) 3 1 tt (plain (λ _. O.the-row)), (goes-ref 𝓤 H (𝓖 .A) (givenOf 𝓤 H 𝓜 𝓖) 3 2 tt (plain (λ _. T.the-row)), (goes-none 𝓤 H (𝓖 .A) (givenOf 𝓤 H 𝓜 𝓖) 3 (λ _. S.the-row) yes (λ κs x f. refl), tt))))
     (step.clauses 𝓤 H (𝓖 .A) (𝓜 .mem) (𝓡 .run)) #lent-step·step code.function (code.unfolded 𝓤 H 𝓜 𝓡)
     (step-walks 𝓤 H (𝓖 .A) (givenOf 𝓤 H 𝓜 𝓖) (𝓜 .mem) (𝓡 .run) (over 𝓤 H 𝓜 𝓖 𝓡 code.env) (record {
-      rows-sound = cited 𝓤 H (RowsSound 𝓤 H (𝓖 .A) (𝓜 .mem) (𝓡 .run)) 𝓜 𝓡 code.env #rows·rows-sound rows-sound-def.routine code.calls-rows·rows-sound (rows-sound-thm.met 𝓤 H 𝓜 𝓖 𝓡);
+      rows-sound = cited 𝓤 H (RowsSound 𝓤 H (𝓖 .A) (𝓜 .mem) (𝓡 .run)) 𝓜 𝓡 code.env #all-rows·rows-sound rows-sound-def.routine code.calls-all-rows·rows-sound (rows-sound-thm.met 𝓤 H 𝓜 𝓖 𝓡);
       slot = cited 𝓤 H (Slot 𝓤 H (𝓖 .A) (𝓜 .mem) (𝓡 .run)) 𝓜 𝓡 code.env #lent·slot slot-def.routine code.calls-lent·slot (slot-thm.met 𝓤 H 𝓜 𝓖 𝓡);
       row-at = cited 𝓤 H (RowAt 𝓤 H (𝓖 .A) (𝓜 .mem) (𝓡 .run)) 𝓜 𝓡 code.env #rows·row-at row-at-def.routine code.calls-rows·row-at (row-at-thm.met 𝓤 H 𝓜 𝓖 𝓡);
       decide = cited 𝓤 H (Decide 𝓤 H (𝓖 .A) (𝓜 .mem) (𝓡 .run)) 𝓜 𝓡 code.env #decisions·decide decide-def.routine code.calls-decisions·decide (decide-thm.met 𝓤 H 𝓜 𝓖 𝓡);

@@ -5,8 +5,8 @@ use borrow.Author.Tests.{lt-ltb, le-ltb}
 use borrow.Author.Needs.{needs}
 use Rattle.block.specs.declared.Warp.{Warp}
 use Rattle.barriers.specs.Steps.{freedWarp}
-use Rattle.in_place.proofs.freed_at.Statement.{statement}
-use Rattle.in_place.proofs.freed_at.Tie as tie
+use Rattle.released.proofs.freed_at.Statement.{statement}
+use Rattle.released.proofs.freed_at.Tie as tie
 
 cast-if1 : tie.Need-cast-if1
 cast-if1 c = search needs

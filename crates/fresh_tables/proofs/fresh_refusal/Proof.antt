@@ -1,11 +1,11 @@
--- `lent::fresh_refusal` meets its contract: the lines in their order.
+-- `fresh_tables::fresh_refusal` meets its contract: the lines in their order.
 -- Assumes nothing.
 use borrow.Author.Tests.{eq-eqb, ne-eqb}
 use Rattle.folds.specs.Folds.{lowest}
 use Rattle.object.specs.Tokens.{slots}
 use Rattle.lent.specs.Entries.{freshRefusal}
-use Rattle.lent.proofs.fresh_refusal.Statement.{statement}
-use Rattle.lent.proofs.fresh_refusal.Tie as tie
+use Rattle.fresh_tables.proofs.fresh_refusal.Statement.{statement}
+use Rattle.fresh_tables.proofs.fresh_refusal.Tie as tie
 
 returns : tie.Need-returns
 unfolding freshRefusal lowest

@@ -1,4 +1,4 @@
--- `in_place::put_status` meets its contract: a walk of its MIR, by hand. The borrow is opened, the row at its place is copied, `with_status` is called, its result is stored, and the borrow is closed at the list with it. Past the end nothing is stored.
+-- `block_rows::put_status` meets its contract: a walk of its MIR, by hand. The borrow is opened, the row at its place is copied, `with_status` is called, its result is stored, and the borrow is closed at the list with it. Past the end nothing is stored.
 -- Assumes nothing.
 use mathlib.Core.Path.{_≡_, refl, sym, ap, subst}
 use Prim.Native.Nat.{ℕ, _<_, _*_, _^_}
@@ -51,14 +51,14 @@ use Rattle.block.proofs.Warp as R
 use Rattle.block.proofs.Warp.Laws as R′
 use Rattle.barriers.specs.Changes.{withStatus}
 use Rattle.rows.proofs.Walk.{calls-exact, forks, gone1, concluded, over}
-use Rattle.in_place.proofs.with_status as with-status
-use Rattle.in_place.proofs.with_status.Symbol as with-status-def
-use Rattle.in_place.proofs.with_status.Symbol.{name as #in-place·with-status}
-use Rattle.in_place.proofs.with_status.Met as with-status-thm
-use Rattle.in_place.proofs.put_status.Key.{name as #in-place·put-status}
-use Rattle.in_place.proofs.put_status as put-status
-use Rattle.in_place.proofs.put_status.Statement as stated
-use Rattle.in_place.proofs.put_status.Code as code
+use Rattle.block_rows.proofs.with_status as with-status
+use Rattle.block_rows.proofs.with_status.Symbol as with-status-def
+use Rattle.block_rows.proofs.with_status.Symbol.{name as #block-rows·with-status}
+use Rattle.block_rows.proofs.with_status.Met as with-status-thm
+use Rattle.block_rows.proofs.put_status.Key.{name as #block-rows·put-status}
+use Rattle.block_rows.proofs.put_status as put-status
+use Rattle.block_rows.proofs.put_status.Statement as stated
+use Rattle.block_rows.proofs.put_status.Code as code
 
 abbrev stayed : Stays (put-status.ended .signature .params) (put-status.ended .kept)
 stayed = (stay-slice (0 ∷ []) tt (plain (λ _. R.the-row)), (stay-none (λ _. usize) yes, (stay-none (λ _. S.the-row) yes, tt)))
@@ -111,7 +111,7 @@ module _ {M : Type 1} (𝓤 : URA M) (H : Heap 𝓤) (A : Atoms 𝓤) (W : Given
       suffices ! _ (ends-at 𝓤 H A put-status.ended stayed (put-status.clauses 𝓤 H A mem run) W (((κ, tt), (q, tt), tt, x, at), tt) vunit tt (ys, (tt, (tt, tt))) (refl, (tt, (tt, tt)))) $ says ! e $
       frame ! $ frame ! $ feqI ! (List Val) (vunit ∷ []) (vunit ∷ []) refl $ done !
 
-  module _ (C : Calls 𝓤 H) (Λ : Loops 𝓤 H) (fm : FmC 𝓤 H (W .laws) C) (known : Triple 𝓤 (C #in-place·with-status) (WithStatus 𝓤 H A mem run)) where
+  module _ (C : Calls 𝓤 H) (Λ : Loops 𝓤 H) (fm : FmC 𝓤 H (W .laws) C) (known : Triple 𝓤 (C #block-rows·with-status) (WithStatus 𝓤 H A mem run)) where
     walk : Room R.the-row (length ys) → i < 2 ^ 64 → Is S.the-row s (mach-s ∷ []) → ent 𝓤 (onEntry 𝓤 H A put-status.signature (κ, tt) (q, tt) x at)
         (WpFn 𝓤 H C Λ code.function (sliceVal (b, o) (length ys) ∷ vint w64 i ∷ mach-s ∷ []) Post)
     walk room i-fits is-s =
@@ -153,7 +153,7 @@ module _ {M : Type 1} (𝓤 : URA M) (H : Heap 𝓤) (A : Atoms 𝓤) (W : Given
         place-fits within = omega (arith, room .1)
 
 module _ {M : Type 1} (𝓤 : URA M) (H : Heap 𝓤) (A : Atoms 𝓤) (W : Given 𝓤 H A) (mem : Memory → SProp 𝓤) (run : Routine → Fun 𝓤) (𝓣 : Tables 𝓤 H) where
-  put-status-walks : Triple 𝓤 (𝓣 .C #in-place·with-status) (WithStatus 𝓤 H A mem run) → Walks 𝓤 H A put-status.ended stayed (WpFn 𝓤 H (𝓣 .C) (𝓣 .Λ) code.function) (put-status.clauses 𝓤 H A mem run)
+  put-status-walks : Triple 𝓤 (𝓣 .C #block-rows·with-status) (WithStatus 𝓤 H A mem run) → Walks 𝓤 H A put-status.ended stayed (WpFn 𝓤 H (𝓣 .C) (𝓣 .Λ) code.function) (put-status.clauses 𝓤 H A mem run)
   put-status-walks known = walked 𝓤 H A put-status.ended stayed (put-status.clauses 𝓤 H A mem run) (WpFn 𝓤 H (𝓣 .C) (𝓣 .Λ) code.function)
       (λ κs. (slice-vals, (uint-vals w64, (LE.vals S.the-type S′.the-laws, tt)))) (λ κs. (mut-slice-tells (named 0) (κs .0) R.the-row, (uint-tells w64, (LE.tells S.the-type S′.the-laws, tt))))
       (λ κs qs bounds a g are. via 𝓤 _ (fst∗ 𝓤 _ (emp 𝓤))
@@ -164,6 +164,6 @@ unfolding code.routine tablesOf
 put-status-spec 𝓤 H 𝓜 𝓖 𝓡 =
     concluded 𝓤 H 𝓜 𝓖 𝓡 code.env put-status.ended stayed
     (goes-slice 𝓤 H (𝓖 .A) (givenOf 𝓤 H 𝓜 𝓖) 1 0 tt (plain (λ _. R.the-row)), (goes-none 𝓤 H (𝓖 .A) (givenOf 𝓤 H 𝓜 𝓖) 1 (λ _. usize) yes (λ κs x f. refl), (goes-none 𝓤 H (𝓖 .A) (givenOf 𝓤 H 𝓜 𝓖) 1 (λ _. S.the-row) yes (λ κs x f. refl), tt)))
-    (put-status.clauses 𝓤 H (𝓖 .A) (𝓜 .mem) (𝓡 .run)) #in-place·put-status code.function (code.unfolded 𝓤 H 𝓜 𝓡)
+    (put-status.clauses 𝓤 H (𝓖 .A) (𝓜 .mem) (𝓡 .run)) #block-rows·put-status code.function (code.unfolded 𝓤 H 𝓜 𝓡)
     (put-status-walks 𝓤 H (𝓖 .A) (givenOf 𝓤 H 𝓜 𝓖) (𝓜 .mem) (𝓡 .run) (over 𝓤 H 𝓜 𝓖 𝓡 code.env)
-    (cited 𝓤 H (WithStatus 𝓤 H (𝓖 .A) (𝓜 .mem) (𝓡 .run)) 𝓜 𝓡 code.env #in-place·with-status with-status-def.routine code.calls-in-place·with-status (with-status-thm.met 𝓤 H 𝓜 𝓖 𝓡)))
+    (cited 𝓤 H (WithStatus 𝓤 H (𝓖 .A) (𝓜 .mem) (𝓡 .run)) 𝓜 𝓡 code.env #block-rows·with-status with-status-def.routine code.calls-block-rows·with-status (with-status-thm.met 𝓤 H 𝓜 𝓖 𝓡)))

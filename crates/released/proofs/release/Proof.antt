@@ -1,4 +1,4 @@
--- `in_place::release` meets its contract: a walk of its MIR, by hand. Where no warp waits it returns at once. Else `barrier_row::result_of` is called and the borrow is opened once, before the loop; a turn takes one row out, copies it, calls `freed_at` and stores its result in the row's place. When the loop is left the borrow is closed at the rows with the waiting warps released.
+-- `released::release` meets its contract: a walk of its MIR, by hand. Where no warp waits it returns at once. Else `barrier_row::result_of` is called and the borrow is opened once, before the loop; a turn takes one row out, copies it, calls `freed_at` and stores its result in the row's place. When the loop is left the borrow is closed at the rows with the waiting warps released.
 -- The invariant, where t rows are left: i is the length less t, and the waiting warps among the first i are released.
 -- Assumes nothing.
 use mathlib.Core.Path.{_≡_, refl, sym, _∙_, ap, subst}
@@ -59,16 +59,16 @@ use Rattle.barrier_row.proofs.result_of.Symbol.{name as #barrier-row·result-of
 use Rattle.barrier_row.proofs.result_of.Met as result-of-thm
 use Rattle.barriers.specs.Steps.{releasedWarps}
 use Rattle.rows.proofs.Walk.{calls-exact, forks, gone1, concluded, over}
-use Rattle.in_place.proofs.Rows.{firsts-none, length-firsts, firsts-next, freedRow, freedTo, freed-all, none-freed}
-use Rattle.in_place.proofs.freed_at as freed-at
-use Rattle.in_place.proofs.freed_at.Symbol as freed-at-def
-use Rattle.in_place.proofs.freed_at.Symbol.{name as #in-place·freed-at}
-use Rattle.in_place.proofs.freed_at.Met as freed-at-thm
-use Rattle.in_place.proofs.release.Key.{name as #in-place·release}
-use Rattle.in_place.proofs.release as release
-use Rattle.in_place.proofs.release.Statement as stated
-use Rattle.in_place.proofs.release.Code as code
-use Rattle.in_place.proofs.release.Code.Mir as steps
+use Rattle.released.proofs.Rows.{firsts-none, length-firsts, firsts-next, freedRow, freedTo, freed-all, none-freed}
+use Rattle.released.proofs.freed_at as freed-at
+use Rattle.released.proofs.freed_at.Symbol as freed-at-def
+use Rattle.released.proofs.freed_at.Symbol.{name as #released·freed-at}
+use Rattle.released.proofs.freed_at.Met as freed-at-thm
+use Rattle.released.proofs.release.Key.{name as #released·release}
+use Rattle.released.proofs.release as release
+use Rattle.released.proofs.release.Statement as stated
+use Rattle.released.proofs.release.Code as code
+use Rattle.released.proofs.release.Code.Mir as steps
 
 abbrev stayed : Stays (release.ended .signature .params) (release.ended .kept)
 stayed = (stay-slice (0 ∷ []) tt (plain (λ _. R.the-row)), (stay-none (λ _. B.the-row) yes, tt))
@@ -140,7 +140,7 @@ module _ {M : Type 1} (𝓤 : URA M) (H : Heap 𝓤) (A : Atoms 𝓤) (W : Given
       suffices ! _ (ends-at 𝓤 H A release.ended stayed (release.clauses 𝓤 H A mem run) W (((κ, tt), (q, tt), tt, x, at), tt) vunit tt (ys, (tt, tt)) (refl, (tt, tt))) $ says ! e $
       frame ! $ frame ! $ feqI ! (List Val) (vunit ∷ []) (vunit ∷ []) refl $ done !
 
-  module _ (𝓣 : Tables 𝓤 H) (result : Triple 𝓤 (𝓣 .C #barrier-row·result-of) (ResultOf 𝓤 H A mem run)) (freed : Triple 𝓤 (𝓣 .C #in-place·freed-at) (FreedAt 𝓤 H A mem run)) (is-r : Is B.the-row r (mach-r ∷ [])) where
+  module _ (𝓣 : Tables 𝓤 H) (result : Triple 𝓤 (𝓣 .C #barrier-row·result-of) (ResultOf 𝓤 H A mem run)) (freed : Triple 𝓤 (𝓣 .C #released·freed-at) (FreedAt 𝓤 H A mem run)) (is-r : Is B.the-row r (mach-r ∷ [])) where
     module _ (v-fits : resultOf r < 2 ^ 32) (l₀ l₁ l₂ l₃ l₄ l₅ l₆ l₇ l₈ l₉ l₁₀ l₁₁ l₁₂ l₁₃ : ℕ) where
       abbrev En : Env 𝓤 H
       En = (tyUnit, l₀) ∷ (slice, l₁) ∷ (B′.mir, l₂) ∷ (tyInt w32, l₃) ∷ (word, l₄) ∷ (word, l₅) ∷ (tyBool, l₆) ∷ (tyBool, l₇) ∷ (R′.mir, l₈) ∷ (word, l₉) ∷ (tyPtr, l₁₀) ∷ (R′.mir, l₁₁) ∷ (word, l₁₂) ∷ (tyPtr, l₁₃) ∷ []
@@ -263,7 +263,7 @@ module _ {M : Type 1} (𝓤 : URA M) (H : Heap 𝓤) (A : Atoms 𝓤) (W : Given
         none m = omega arith
 
 module _ {M : Type 1} (𝓤 : URA M) (H : Heap 𝓤) (A : Atoms 𝓤) (W : Given 𝓤 H A) (mem : Memory → SProp 𝓤) (run : Routine → Fun 𝓤) (𝓣 : Tables 𝓤 H) where
-  release-walks : Triple 𝓤 (𝓣 .C #barrier-row·result-of) (ResultOf 𝓤 H A mem run) → Triple 𝓤 (𝓣 .C #in-place·freed-at) (FreedAt 𝓤 H A mem run) → Walks 𝓤 H A release.ended stayed (WpFn 𝓤 H (𝓣 .C) (𝓣 .Λ) code.function) (release.clauses 𝓤 H A mem run)
+  release-walks : Triple 𝓤 (𝓣 .C #barrier-row·result-of) (ResultOf 𝓤 H A mem run) → Triple 𝓤 (𝓣 .C #released·freed-at) (FreedAt 𝓤 H A mem run) → Walks 𝓤 H A release.ended stayed (WpFn 𝓤 H (𝓣 .C) (𝓣 .Λ) code.function) (release.clauses 𝓤 H A mem run)
   release-walks result freed = walked 𝓤 H A release.ended stayed (release.clauses 𝓤 H A mem run) (WpFn 𝓤 H (𝓣 .C) (𝓣 .Λ) code.function)
       (λ κs. (slice-vals, (LL.vals B.the-type B′.the-laws, tt))) (λ κs. (mut-slice-tells (named 0) (κs .0) R.the-row, (LL.tells B.the-type B′.the-laws, tt)))
       (λ κs qs bounds a g are. via 𝓤 _ (fst∗ 𝓤 _ (emp 𝓤))
@@ -274,7 +274,7 @@ unfolding code.routine tablesOf
 release-spec 𝓤 H 𝓜 𝓖 𝓡 =
     concluded 𝓤 H 𝓜 𝓖 𝓡 code.env release.ended stayed
     (goes-slice 𝓤 H (𝓖 .A) (givenOf 𝓤 H 𝓜 𝓖) 1 0 tt (plain (λ _. R.the-row)), (goes-none 𝓤 H (𝓖 .A) (givenOf 𝓤 H 𝓜 𝓖) 1 (λ _. B.the-row) yes (λ κs x f. refl), tt))
-    (release.clauses 𝓤 H (𝓖 .A) (𝓜 .mem) (𝓡 .run)) #in-place·release code.function (code.unfolded 𝓤 H 𝓜 𝓡)
+    (release.clauses 𝓤 H (𝓖 .A) (𝓜 .mem) (𝓡 .run)) #released·release code.function (code.unfolded 𝓤 H 𝓜 𝓡)
     (release-walks 𝓤 H (𝓖 .A) (givenOf 𝓤 H 𝓜 𝓖) (𝓜 .mem) (𝓡 .run) (over 𝓤 H 𝓜 𝓖 𝓡 code.env)
     (cited 𝓤 H (ResultOf 𝓤 H (𝓖 .A) (𝓜 .mem) (𝓡 .run)) 𝓜 𝓡 code.env #barrier-row·result-of result-of-def.routine code.calls-barrier-row·result-of (result-of-thm.met 𝓤 H 𝓜 𝓖 𝓡))
-    (cited 𝓤 H (FreedAt 𝓤 H (𝓖 .A) (𝓜 .mem) (𝓡 .run)) 𝓜 𝓡 code.env #in-place·freed-at freed-at-def.routine code.calls-in-place·freed-at (freed-at-thm.met 𝓤 H 𝓜 𝓖 𝓡)))
+    (cited 𝓤 H (FreedAt 𝓤 H (𝓖 .A) (𝓜 .mem) (𝓡 .run)) 𝓜 𝓡 code.env #released·freed-at freed-at-def.routine code.calls-released·freed-at (freed-at-thm.met 𝓤 H 𝓜 𝓖 𝓡)))

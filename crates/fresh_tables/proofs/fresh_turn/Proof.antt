@@ -1,9 +1,9 @@
--- `lent::fresh_turn` meets its contract.
+-- `fresh_tables::fresh_turn` meets its contract.
 -- Assumes nothing.
 use borrow.Author.Needs.{needs}
 use borrow.Author.Tests.{ne-eqb}
-use Rattle.lent.proofs.fresh_turn.Statement.{statement}
-use Rattle.lent.proofs.fresh_turn.Tie as tie
+use Rattle.fresh_tables.proofs.fresh_turn.Statement.{statement}
+use Rattle.fresh_tables.proofs.fresh_turn.Tie as tie
 
 fresh-requires : tie.Need-fresh-requires
 fresh-requires c κs = search needs

@@ -1,4 +1,4 @@
--- `in_place::put_barrier` meets its contract: a walk of its MIR, by hand. The borrow is opened, the row at its place is stored to, and the borrow is closed at the list with the new row. Past the end nothing is stored.
+-- `block_rows::put_barrier` meets its contract: a walk of its MIR, by hand. The borrow is opened, the row at its place is stored to, and the borrow is closed at the list with the new row. Past the end nothing is stored.
 -- Assumes nothing.
 use mathlib.Core.Path.{_≡_, refl, sym, ap, subst}
 use Prim.Native.Nat.{ℕ, _<_, _*_, _^_}
@@ -42,10 +42,10 @@ use Rattle.block.specs.Tables.{idle}
 use Rattle.block.proofs.Barrier as B
 use Rattle.block.proofs.Barrier.Laws as B′
 use Rattle.rows.proofs.Walk.{forks, gone1, concluded, over}
-use Rattle.in_place.proofs.put_barrier.Key.{name as #in-place·put-barrier}
-use Rattle.in_place.proofs.put_barrier as put-barrier
-use Rattle.in_place.proofs.put_barrier.Statement as stated
-use Rattle.in_place.proofs.put_barrier.Code as code
+use Rattle.block_rows.proofs.put_barrier.Key.{name as #block-rows·put-barrier}
+use Rattle.block_rows.proofs.put_barrier as put-barrier
+use Rattle.block_rows.proofs.put_barrier.Statement as stated
+use Rattle.block_rows.proofs.put_barrier.Code as code
 
 abbrev stayed : Stays (put-barrier.ended .signature .params) (put-barrier.ended .kept)
 stayed = (stay-slice (0 ∷ []) tt (plain (λ _. B.the-row)), (stay-none (λ _. usize) yes, (stay-none (λ _. B.the-row) yes, tt)))
@@ -128,5 +128,5 @@ unfolding code.routine tablesOf
 put-barrier-spec 𝓤 H 𝓜 𝓖 𝓡 =
     concluded 𝓤 H 𝓜 𝓖 𝓡 code.env put-barrier.ended stayed
     (goes-slice 𝓤 H (𝓖 .A) (givenOf 𝓤 H 𝓜 𝓖) 1 0 tt (plain (λ _. B.the-row)), (goes-none 𝓤 H (𝓖 .A) (givenOf 𝓤 H 𝓜 𝓖) 1 (λ _. usize) yes (λ κs x f. refl), (goes-none 𝓤 H (𝓖 .A) (givenOf 𝓤 H 𝓜 𝓖) 1 (λ _. B.the-row) yes (λ κs x f. refl), tt)))
-    (put-barrier.clauses 𝓤 H (𝓖 .A) (𝓜 .mem) (𝓡 .run)) #in-place·put-barrier code.function (code.unfolded 𝓤 H 𝓜 𝓡)
+    (put-barrier.clauses 𝓤 H (𝓖 .A) (𝓜 .mem) (𝓡 .run)) #block-rows·put-barrier code.function (code.unfolded 𝓤 H 𝓜 𝓡)
     (put-barrier-walks 𝓤 H (𝓖 .A) (givenOf 𝓤 H 𝓜 𝓖) (𝓜 .mem) (𝓡 .run) (over 𝓤 H 𝓜 𝓖 𝓡 code.env))

@@ -1,4 +1,4 @@
--- `lent::fresh` meets its contract: a walk of its MIR, by hand. Where fresh tables are refused nothing is opened; else both borrows are opened, the rows are lent to `fresh_rows`, the tally is stored to, and both are closed.
+-- `fresh_tables::fresh` meets its contract: a walk of its MIR, by hand. Where fresh tables are refused nothing is opened; else both borrows are opened, the rows are lent to `fresh_rows`, the tally is stored to, and both are closed.
 -- Assumes nothing.
 use mathlib.Core.Path.{_≡_, refl, sym, _∙_, ap, subst}
 use mathlib.Core.Bool.{true, not}
@@ -55,29 +55,29 @@ use Rattle.tables.specs.Tables.{freshTally}
 use Rattle.tables.proofs.Tally as T
 use Rattle.tables.proofs.Tally.Laws as T′
 use Rattle.rows.proofs.Walk.{is-false, says-too, calls-exact, forks, gone1, concluded, over}
-use Rattle.rows.proofs.fresh_rows as fresh-rows
-use Rattle.rows.proofs.fresh_rows.Symbol as fresh-rows-def
-use Rattle.rows.proofs.fresh_rows.Symbol.{name as #rows·fresh-rows}
-use Rattle.rows.proofs.fresh_rows.Met as fresh-rows-thm
+use Rattle.all_rows.proofs.fresh_rows as fresh-rows
+use Rattle.all_rows.proofs.fresh_rows.Symbol as fresh-rows-def
+use Rattle.all_rows.proofs.fresh_rows.Symbol.{name as #all-rows·fresh-rows}
+use Rattle.all_rows.proofs.fresh_rows.Met as fresh-rows-thm
 use Rattle.lent.specs.Entries.{freshRefusal, freshTurn, Freshened}
 use Rattle.lent.proofs.Entries.{all-there}
 use Rattle.rows.proofs.Lend.{Back, rows-lent, rows-lent-back, calls-lending}
-use Rattle.lent.proofs.fresh_refusal as fresh-refusal
-use Rattle.lent.proofs.fresh_refusal.Symbol as fresh-refusal-def
-use Rattle.lent.proofs.fresh_refusal.Symbol.{name as #lent·fresh-refusal}
-use Rattle.lent.proofs.fresh_refusal.Met as fresh-refusal-thm
-use Rattle.lent.proofs.fresh_turn as fresh-turn
-use Rattle.lent.proofs.fresh_turn.Symbol as fresh-turn-def
-use Rattle.lent.proofs.fresh_turn.Symbol.{name as #lent·fresh-turn}
-use Rattle.lent.proofs.fresh_turn.Met as fresh-turn-thm
-use Rattle.lent.proofs.fresh_tally as fresh-tally
-use Rattle.lent.proofs.fresh_tally.Symbol as fresh-tally-def
-use Rattle.lent.proofs.fresh_tally.Symbol.{name as #lent·fresh-tally}
-use Rattle.lent.proofs.fresh_tally.Met as fresh-tally-thm
-use Rattle.lent.proofs.fresh.Key.{name as #lent·fresh}
-use Rattle.lent.proofs.fresh as fresh
-use Rattle.lent.proofs.fresh.Statement as stated
-use Rattle.lent.proofs.fresh.Code as code
+use Rattle.fresh_tables.proofs.fresh_refusal as fresh-refusal
+use Rattle.fresh_tables.proofs.fresh_refusal.Symbol as fresh-refusal-def
+use Rattle.fresh_tables.proofs.fresh_refusal.Symbol.{name as #fresh-tables·fresh-refusal}
+use Rattle.fresh_tables.proofs.fresh_refusal.Met as fresh-refusal-thm
+use Rattle.fresh_tables.proofs.fresh_turn as fresh-turn
+use Rattle.fresh_tables.proofs.fresh_turn.Symbol as fresh-turn-def
+use Rattle.fresh_tables.proofs.fresh_turn.Symbol.{name as #fresh-tables·fresh-turn}
+use Rattle.fresh_tables.proofs.fresh_turn.Met as fresh-turn-thm
+use Rattle.fresh_tables.proofs.fresh_tally as fresh-tally
+use Rattle.fresh_tables.proofs.fresh_tally.Symbol as fresh-tally-def
+use Rattle.fresh_tables.proofs.fresh_tally.Symbol.{name as #fresh-tables·fresh-tally}
+use Rattle.fresh_tables.proofs.fresh_tally.Met as fresh-tally-thm
+use Rattle.fresh_tables.proofs.fresh.Key.{name as #fresh-tables·fresh}
+use Rattle.fresh_tables.proofs.fresh as fresh
+use Rattle.fresh_tables.proofs.fresh.Statement as stated
+use Rattle.fresh_tables.proofs.fresh.Code as code
 
 abbrev stayed : Stays (fresh.ended .signature .params) (fresh.ended .kept)
 stayed = (stay-slice (0 ∷ []) tt (plain (λ _. O.the-row)), (stay-ref (1 ∷ []) tt (plain (λ _. T.the-row)), (stay-none (λ _. u8) yes, tt)))
@@ -97,10 +97,10 @@ module _ {M : Type 1} (𝓤 : URA M) (H : Heap 𝓤) (A : Atoms 𝓤) (at-mem : 
   FreshTally = tripleOf 𝓤 H A fresh-tally.signature (fresh-tally.spec 𝓤 H A at-mem run)
 
   pub record Known (C : Calls 𝓤 H) : Type 1 where
-    pub fresh-refusal : Triple 𝓤 (C #lent·fresh-refusal) FreshRefusal
-    pub fresh-turn : Triple 𝓤 (C #lent·fresh-turn) FreshTurn
-    pub fresh-rows : Triple 𝓤 (C #rows·fresh-rows) FreshRows
-    pub fresh-tally : Triple 𝓤 (C #lent·fresh-tally) FreshTally
+    pub fresh-refusal : Triple 𝓤 (C #fresh-tables·fresh-refusal) FreshRefusal
+    pub fresh-turn : Triple 𝓤 (C #fresh-tables·fresh-turn) FreshTurn
+    pub fresh-rows : Triple 𝓤 (C #all-rows·fresh-rows) FreshRows
+    pub fresh-tally : Triple 𝓤 (C #fresh-tables·fresh-tally) FreshTally
 
 -- what two calls answer: the refusal number, and the turn that it makes
 record Goes (ys : List Object) (w n : ℕ) (t : Turn) : Type 0 where
@@ -217,10 +217,10 @@ unfolding code.routine tablesOf
 fresh-spec 𝓤 H 𝓜 𝓖 𝓡 =
     concluded 𝓤 H 𝓜 𝓖 𝓡 code.env fresh.ended stayed
     (goes-slice 𝓤 H (𝓖 .A) (givenOf 𝓤 H 𝓜 𝓖) 2 0 tt (plain (λ _. O.the-row)), (goes-ref 𝓤 H (𝓖 .A) (givenOf 𝓤 H 𝓜 𝓖) 2 1 tt (plain (λ _. T.the-row)), (goes-none 𝓤 H (𝓖 .A) (givenOf 𝓤 H 𝓜 𝓖) 2 (λ _. u8) yes (λ κs x f. refl), tt)))
-    (fresh.clauses 𝓤 H (𝓖 .A) (𝓜 .mem) (𝓡 .run)) #lent·fresh code.function (code.unfolded 𝓤 H 𝓜 𝓡)
+    (fresh.clauses 𝓤 H (𝓖 .A) (𝓜 .mem) (𝓡 .run)) #fresh-tables·fresh code.function (code.unfolded 𝓤 H 𝓜 𝓡)
     (fresh-walks 𝓤 H (𝓖 .A) (givenOf 𝓤 H 𝓜 𝓖) (𝓜 .mem) (𝓡 .run) (over 𝓤 H 𝓜 𝓖 𝓡 code.env) (record {
-      fresh-refusal = cited 𝓤 H (FreshRefusal 𝓤 H (𝓖 .A) (𝓜 .mem) (𝓡 .run)) 𝓜 𝓡 code.env #lent·fresh-refusal fresh-refusal-def.routine code.calls-lent·fresh-refusal (fresh-refusal-thm.met 𝓤 H 𝓜 𝓖 𝓡);
-      fresh-turn = cited 𝓤 H (FreshTurn 𝓤 H (𝓖 .A) (𝓜 .mem) (𝓡 .run)) 𝓜 𝓡 code.env #lent·fresh-turn fresh-turn-def.routine code.calls-lent·fresh-turn (fresh-turn-thm.met 𝓤 H 𝓜 𝓖 𝓡);
-      fresh-rows = cited 𝓤 H (FreshRows 𝓤 H (𝓖 .A) (𝓜 .mem) (𝓡 .run)) 𝓜 𝓡 code.env #rows·fresh-rows fresh-rows-def.routine code.calls-rows·fresh-rows (fresh-rows-thm.met 𝓤 H 𝓜 𝓖 𝓡);
-      fresh-tally = cited 𝓤 H (FreshTally 𝓤 H (𝓖 .A) (𝓜 .mem) (𝓡 .run)) 𝓜 𝓡 code.env #lent·fresh-tally fresh-tally-def.routine code.calls-lent·fresh-tally (fresh-tally-thm.met 𝓤 H 𝓜 𝓖 𝓡);
+      fresh-refusal = cited 𝓤 H (FreshRefusal 𝓤 H (𝓖 .A) (𝓜 .mem) (𝓡 .run)) 𝓜 𝓡 code.env #fresh-tables·fresh-refusal fresh-refusal-def.routine code.calls-fresh-tables·fresh-refusal (fresh-refusal-thm.met 𝓤 H 𝓜 𝓖 𝓡);
+      fresh-turn = cited 𝓤 H (FreshTurn 𝓤 H (𝓖 .A) (𝓜 .mem) (𝓡 .run)) 𝓜 𝓡 code.env #fresh-tables·fresh-turn fresh-turn-def.routine code.calls-fresh-tables·fresh-turn (fresh-turn-thm.met 𝓤 H 𝓜 𝓖 𝓡);
+      fresh-rows = cited 𝓤 H (FreshRows 𝓤 H (𝓖 .A) (𝓜 .mem) (𝓡 .run)) 𝓜 𝓡 code.env #all-rows·fresh-rows fresh-rows-def.routine code.calls-all-rows·fresh-rows (fresh-rows-thm.met 𝓤 H 𝓜 𝓖 𝓡);
+      fresh-tally = cited 𝓤 H (FreshTally 𝓤 H (𝓖 .A) (𝓜 .mem) (𝓡 .run)) 𝓜 𝓡 code.env #fresh-tables·fresh-tally fresh-tally-def.routine code.calls-fresh-tables·fresh-tally (fresh-tally-thm.met 𝓤 H 𝓜 𝓖 𝓡);
     }))
