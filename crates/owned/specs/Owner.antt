@@ -1,4 +1,4 @@
--- An owner of block, list and tally: what its functions promise, and that they are the entries of `lent` on what it owns.
+-- An owner of block, list and tally: what its functions promise, and that they are the step and the fresh tables over what is lent, on what it owns.
 -- Assumes nothing.
 use mathlib.Core.List.{List}
 use Prim.Native.Nat.{ℕ}

@@ -1,4 +1,4 @@
-// Block, list and tally by value: the entries of `lent` for whoever owns what they are lent.
+// Block, list and tally by value: the step and fresh tables for whoever owns what they are lent.
 use block::Block;
 use block::Verdict;
 use object::Object;
