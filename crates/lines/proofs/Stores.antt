@@ -7,6 +7,8 @@ use native.Mathlib.Omega.{arith}
 use native.Mathlib.Nat.{add-zero}
 use lib.ListN.{length, take, drop, set, length-append}
 use lib.Seq.{sets, sets-eq, length-sets, take-at}
+use Rattle.fields.specs.Num.{laid}
+use Rattle.fields.proofs.Num.{laid-fits}
 
 -- stores one after the other are the stores of the whole
 pub sets-append : (l : List ℕ) (i j : ℕ) (xs ys : List ℕ) → i + length xs ≡ j → sets (sets l i xs) j ys ≡ sets l i (xs ++ ys)
@@ -31,11 +33,6 @@ next {l} {w} {l′} {l″} {j} {k} s x e f = record {
   upto = omega (arith, s .upto, length-append w x);
 }
 
--- a word and the byte after it
-pub next-word : {l w l′ l″ : List ℕ} {j k : ℕ} → Stored l w l′ j → (x : List ℕ) (b : ℕ) → l″ ≡ sets l′ j (x ++ b ∷ []) → k ≡ j + length x + 1
-    → Stored l (w ++ (x ++ b ∷ [])) l″ k
-next-word s x b e f = next s (x ++ b ∷ []) e (omega (arith, length-append x (b ∷ [])))
-
 -- nothing yet
 pub begin : (l : List ℕ) → Stored l [] l 0
 begin l = record { lies = refl; upto = refl }
@@ -43,6 +40,11 @@ begin l = record { lies = refl; upto = refl }
 -- the length stays
 pub same : {l w l′ : List ℕ} {j : ℕ} → Stored l w l′ j → length l′ ≡ length l
 same {l} {w} s = ap length (s .lies) ∙ length-sets l 0 w
+
+-- bytes that are laid where they fit
+pub next-laid : {l w l′ l″ : List ℕ} {j k : ℕ} → Stored l w l′ j → (x : List ℕ) → l″ ≡ laid l′ j x → j + length x ≤ length l → k ≡ j + length x
+    → Stored l (w ++ x) l″ k
+next-laid {l} {w} {l′} {l″} {j} s x e fits f = next s x (e ∙ sym (laid-fits l′ j x (omega (arith, same s)))) f
 
 -- a number and what stands after it, from the start on
 pub numbered : {l l′ : List ℕ} {j : ℕ} (x y : List ℕ) → l′ ≡ sets l 0 (x ++ y) → j ≡ length x + length y → Stored l (x ++ y) l′ j

@@ -13,7 +13,8 @@ use Rattle.block.specs.Tables.{soundBlock}
 use Rattle.tables.specs.Tables.{freshTables}
 use Rattle.tables.specs.Refusals.{refusal}
 use Rattle.tables.specs.Effect.{taken}
-use Rattle.lines.specs.Lines.{decimal, lineOf, endOf}
+use Rattle.digits.specs.Digits.{decimal}
+use Rattle.lines.specs.Lines.{lineOf, endOf}
 use Rattle.lines.proofs.Lines.{line-most, end-most}
 use Rattle.printed.specs.Text.{answersFrom, answers, traceRefusal, linesOf, acceptedIn, refusedIn, textOf, roomFor}
 use Rattle.runs.specs.Runs.{startOf}
