@@ -2,7 +2,7 @@
 -- Assumes nothing.
 use mathlib.Core.Path.{_≡_, refl, sym, ap, _∙_}
 use mathlib.Core.Bool.{Bool, true, false, true≢false}
-use mathlib.Core.List.{List, _++_}
+use mathlib.Core.List.{List, [], _∷_, _++_}
 use Prim.Native.Nat.{ℕ, _+_, _-_, _≤_, _<_}
 use native.Mathlib.Omega.{arith}
 use native.Mathlib.Nat.{zero-add}
@@ -26,14 +26,15 @@ use Rattle.lent.specs.Entries.{tablesOf as tables-of, stateOf, Stepped}
 use Rattle.owned.specs.Owner.{ownedStep}
 use Rattle.runs.specs.declared.Run.{Run}
 use Rattle.runs.specs.Runs.{numberIn}
-use Rattle.printed.specs.Text.{textOf}
+use Rattle.printed.specs.Text.{textLines, joined, textOf}
 use Rattle.printed.proofs.Text.{moves, at-place}
 use Rattle.printed.proofs.Turns.{left, left-end, left-stop, left-step, left-start}
 use Rattle.printed.proofs.Laws.{room-is-enough}
 use Rattle.looking.specs.declared.Laying.{Laying}
 use Rattle.looking.specs.Places.{looked}
 use Rattle.looking.proofs.Places.{look-end, look-stop, look-step, refusal-some}
-use Rattle.laying.specs.Buffer.{lineLaid, endAfter, lastOf, runOf, Begun, TurnsLaid, LastLaid, Lays}
+use Rattle.laying.specs.Laws.{LaidAsOne, NoneAfter}
+use Rattle.laying.specs.Buffer.{laidLines, lineLaid, endAfter, lastOf, runOf, Begun, TurnsLaid, LastLaid, Lays}
 
 -- bytes laid in keep the length
 laid-length : (out : List ℕ) (at : ℕ) (bs : List ℕ) → length (laid out at bs) ≡ length out
@@ -47,16 +48,17 @@ laid-length out at bs = within (leb (at + length bs) (length out)) refl
 
 pub record Left (s out₀ out : List ℕ) (b : Block) (ys : List Object) (h : Tally) (l : Laying) : Type 0 where
   pub same : length out ≡ length out₀
-  pub size : l .at + length (left s (runOf b ys h l)) ≡ length (textOf s)
-  pub bytes : length (textOf s) ≤ length out₀ → sets out (l .at) (left s (runOf b ys h l)) ≡ sets out₀ 0 (textOf s)
+  pub size : l .at + length (joined (left s (runOf b ys h l))) ≡ length (textOf s)
+  pub bytes : laidLines out (l .at) (left s (runOf b ys h l)) ≡ laidLines out₀ 0 (textLines s)
 
 pub text-small : (s : List ℕ) → length (textOf s) < 2000000
 text-small s = omega (arith, room-is-enough s)
 
 pub left-first : (s out : List ℕ) (b : Block) (ys : List Object) (h : Tally) (l : Laying) → Begun s b ys h l → Left s out out b ys h l
+unfolding textOf
 left-first s out b ys h l (e, x, z) =
-    let whole : left s (runOf b ys h l) ≡ textOf s = ap (left s) x ∙ left-start s e in
-    record { same = refl; size = rw (z, whole) (zero-add (length (textOf s))); bytes = λ _. rw (z, whole) }
+    let whole : left s (runOf b ys h l) ≡ textLines s = ap (left s) x ∙ left-start s e in
+    record { same = refl; size = rw (z, whole) (zero-add (length (joined (textLines s)))); bytes = rw (z, whole) }
 
 -- what a look finds
 module _ (s : List ℕ) (b : Block) (ys : List Object) (h : Tally) (l l′ : Laying) (found : l′ ≡ looked s l) where
@@ -83,7 +85,7 @@ module _ (s : List ℕ) (b : Block) (ys : List Object) (h : Tally) (l l′ : Lay
   abbrev next-run : Run
   next-run = record { state = ownedStep (run .state) (l′ .step) .state; cursor = l′ .cursor; lines = tallied (l′ .lines) v }
 
-  left-taken : l′ .going ≡ true → left s run ≡ lineOf (numberIn (l′ .lines)) v ++ left s next-run
+  left-taken : l′ .going ≡ true → left s run ≡ lineOf (numberIn (l′ .lines)) v ∷ left s next-run
   left-taken =
       at-place s (l .cursor .at) (λ e. rw (found ∙ look-end s l e) (λ g. absurd (true≢false (sym g))))
       (λ more n e. rw (found ∙ look-stop s l more n e) (λ g. absurd (true≢false (sym g))))
@@ -96,16 +98,16 @@ module _ (s : List ℕ) (b : Block) (ys : List Object) (h : Tally) (l l′ : Lay
       (λ more st c e. rw (found ∙ look-step s l more st c e) (λ _. moves s (l .cursor .at) st c e))
 
   taken-too : (r : Turn) (zs : List Object) (h′ : Tally) → Stepped (stateOf b ys h) (l′ .step) (r .verdict) (r .block) zs h′
-      → lineOf (numberIn (l′ .lines)) (r .verdict) ++ left s (runOf (r .block) zs h′ (lineLaid l′ (r .verdict))) ≡ lineOf (numberIn (l′ .lines)) v ++ left s next-run
+      → _≡_ {A = List (List ℕ)} (lineOf (numberIn (l′ .lines)) (r .verdict) ∷ left s (runOf (r .block) zs h′ (lineLaid l′ (r .verdict)))) (lineOf (numberIn (l′ .lines)) v ∷ left s next-run)
   taken-too r zs h′ e = λ i. lineOf (numberIn (l′ .lines)) (e .verdict i)
-      ++ left s (record { state = record { block = e .block i; objects = e .objects i; tally = e .tally i }; cursor = l′ .cursor; lines = tallied (l′ .lines) (e .verdict i) })
+      ∷ left s (record { state = record { block = e .block i; objects = e .objects i; tally = e .tally i }; cursor = l′ .cursor; lines = tallied (l′ .lines) (e .verdict i) })
 
   pub turn-less : l′ .going ≡ true → (u : Verdict) → length s - lineLaid l′ u .cursor .at < length s - l .cursor .at
   turn-less going u = omega (arith, moved going)
 
   module _ (out₀ out : List ℕ) (so : Left s out₀ out b ys h l) where
     pub left-last : l′ .going ≡ false → TurnsLaid s out₀ l′ out
-    left-last over = record { size = rw (look-at, ← left-over over) (so .size); bytes = λ fits. rw (look-at, ← left-over over) (so .bytes fits) }
+    left-last over = record { size = rw (look-at, ← left-over over) (so .size); bytes = rw (look-at, ← left-over over) (so .bytes) }
 
     -- the place is far from the largest number
     pub line-fits : l′ .at + mostLine < 18446744073709551616
@@ -117,17 +119,12 @@ module _ (s : List ℕ) (b : Block) (ys : List Object) (h : Tally) (l l′ : Lay
         let w = lineOf (numberIn (l′ .lines)) (r .verdict) in
         let x = runOf (r .block) zs h′ (lineLaid l′ (r .verdict)) in
         let rest = left s x in
-        let whole : left s run ≡ w ++ rest = left-taken going ∙ sym (taken-too r zs h′ e) in
-        let size : l′ .at + (length w + length rest) ≡ length (textOf s) = rw (look-at, ← length-append w rest, ← whole) (so .size) in
+        let whole : left s run ≡ w ∷ rest = left-taken going ∙ sym (taken-too r zs h′ e) in
+        let size : l′ .at + (length w + length (joined rest)) ≡ length (textOf s) = rw (look-at, ← length-append w (joined rest), ← ap joined whole) (so .size) in
         record {
           same = laid-length out (l′ .at) w ∙ so .same;
           size = omega arith;
-          bytes = λ fits.
-              ap (λ (o : List ℕ). sets o (l′ .at + length w) rest) (sym (laid-fits out (l′ .at) w (omega (arith, so .same))))
-              ∙ sets-append out (l′ .at) (l′ .at + length w) w rest refl
-              ∙ ap (sets out (l′ .at)) (sym whole)
-              ∙ ap (λ (k : ℕ). sets out k (left s run)) look-at
-              ∙ so .bytes fits;
+          bytes = (λ i. laidLines out (look-at i) (w ∷ rest)) ∙ ap (laidLines out (l .at)) (sym whole) ∙ so .bytes;
         }
 
 -- ---- what follows the last step
@@ -136,8 +133,8 @@ module _ (before : List ℕ) (l : Laying) where
   -- the end line alone
   pub last-end : l .refusal ≡ 0 → (k : ℕ) (after : List ℕ) → k ≡ length (endAfter (l .lines)) → after ≡ laid before (l .at) (endAfter (l .lines)) → LastLaid before l (l .at + k) after
   last-end none k after size e =
-      let whole : lastOf l ≡ endAfter (l .lines) = rw none in
-      record { size = rw (whole, size); bytes = λ fits. e ∙ sym (laid-fits before (l .at) (endAfter (l .lines)) (omega (arith, fits, size))) ∙ ap (sets before (l .at)) (sym whole) }
+      let whole : lastOf l ≡ endAfter (l .lines) ∷ [] = rw none in
+      record { size = rw (whole, size) (omega (arith, length-append (endAfter (l .lines)) [])); bytes = rw whole e }
 
   -- the line of a 1 or 2, and the end line
   pub last-stop : (l .refusal ≡ 0 → ⊥) → (l′ : Laying) → l′ ≡ lineLaid l (Refused (l .refusal)) → (mid after : List ℕ) → mid ≡ laid before (l .at) (lineOf (numberIn (l .lines)) (Refused (l .refusal)))
@@ -145,38 +142,54 @@ module _ (before : List ℕ) (l : Laying) where
   last-stop some l′ is mid after first k size e =
       let w = lineOf (numberIn (l .lines)) (Refused (l .refusal)) in
       let z = endAfter (tallied (l .lines) (Refused (l .refusal))) in
-      let whole : lastOf l ≡ w ++ z = rw (ne-eqb (l .refusal) 0 some) in
-      let long = length-append w z in
+      let whole : lastOf l ≡ w ∷ z ∷ [] = rw (ne-eqb (l .refusal) 0 some) in
       let place : l′ .at ≡ l .at + length w = ap (λ (x : Laying). x .at) is in
       let ends : endAfter (l′ .lines) ≡ z = ap (λ (x : Laying). endAfter (x .lines)) is in
-      let size′ : k ≡ length z = size ∙ ap length ends in
       record {
-        size = rw (whole, place) (omega (arith, size′, long));
-        bytes = λ fits.
-            e
-            ∙ (λ i. laid mid (place i) (ends i))
-            ∙ sym (laid-fits mid (l .at + length w) z (omega (arith, fits, place, size′, ap length first, laid-length before (l .at) w)))
-            ∙ ap (λ (o : List ℕ). sets o (l .at + length w) z) (first ∙ sym (laid-fits before (l .at) w (omega (arith, fits, place, size′))))
-            ∙ sets-append before (l .at) (l .at + length w) w z refl
-            ∙ ap (sets before (l .at)) (sym whole);
+        size = rw (whole, place) (omega (arith, size ∙ ap length ends, length-append w (z ++ []), length-append z []));
+        bytes = rw whole (e ∙ (λ i. laid (first i) (place i) (ends i)));
       }
 
 -- all of it: the turns, and what follows the last step
-pub lays-all : (s out₀ out out′ : List ℕ) (l : Laying) (r : ℕ) → length out ≡ length out₀ → TurnsLaid s out₀ l out → LastLaid out l r out′ → Lays s out₀ r out′
-lays-all s out₀ out out′ l r same turns last =
-    let size : r ≡ length (textOf s) = last .size ∙ turns .size in
-    record { size = size; bytes = λ fits. last .bytes (omega (arith, size, fits, same)) ∙ turns .bytes fits ∙ laid-fits out₀ 0 (textOf s) (omega (arith, fits)) }
+pub lays-all : (s out₀ out out′ : List ℕ) (l : Laying) (r : ℕ) → TurnsLaid s out₀ l out → LastLaid out l r out′ → Lays s out₀ r out′
+lays-all s out₀ out out′ l r turns last = record { size = last .size ∙ turns .size; bytes = last .bytes ∙ turns .bytes }
 
--- ---- two lines alone
+-- two lines alone
+pub two-laid : (out mid after w x : List ℕ) (k : ℕ) → k ≡ length w → mid ≡ laid out 0 w → after ≡ laid mid k x → after ≡ laidLines out 0 (w ∷ x ∷ [])
+two-laid out mid after w x k size e f =
+    let place : k ≡ 0 + length w = size ∙ sym (zero-add (length w)) in
+    f ∙ (λ i. laid (e i) (place i) x)
 
--- two pieces, one after the other
-pub laid-two : (out₀ out₁ out₂ w x : List ℕ) (k : ℕ) → k ≡ length w → out₁ ≡ laid out₀ 0 w → out₂ ≡ laid out₁ k x → length out₁ ≡ length out₀
-    → length (w ++ x) ≤ length out₀ → out₂ ≡ laid out₀ 0 (w ++ x)
-laid-two out₀ out₁ out₂ w x k size e f long fits =
-    let both = length-append w x in
-    let one : sets out₀ 0 w ≡ out₁ = laid-fits out₀ 0 w (omega arith) ∙ sym e in
-    f
-    ∙ sym (laid-fits out₁ k x (omega arith))
-    ∙ ap (λ (o : List ℕ). sets o k x) (sym one)
-    ∙ sets-append out₀ 0 k w x (omega arith)
-    ∙ laid-fits out₀ 0 (w ++ x) (omega arith)
+-- ---- lines that fit, and lines that don't
+
+-- nothing laid in changes nothing
+laid-none : (out : List ℕ) (at : ℕ) → at ≤ length out → laid out at [] ≡ out
+laid-none out at h = sym (laid-fits out at [] (omega (arith, h)))
+
+pub laid-as-one : LaidAsOne
+laid-as-one out at [] h = sym (laid-none out at (omega arith))
+laid-as-one out at (w ∷ ws) h =
+    let rest = joined ws in
+    let both = length-append w rest in
+    let one = laid-fits out at w (omega arith) in
+    laid-as-one (laid out at w) (at + length w) ws (omega (arith, laid-length out at w))
+    ∙ sym (laid-fits (laid out at w) (at + length w) rest (omega (arith, laid-length out at w)))
+    ∙ ap (λ (o : List ℕ). sets o (at + length w) rest) (sym one)
+    ∙ sets-append out at (at + length w) w rest refl
+    ∙ laid-fits out at (w ++ rest) (omega arith)
+
+-- and so is a whole text
+pub text-fits : (s out : List ℕ) → length (textOf s) ≤ length out → laidLines out 0 (textLines s) ≡ laid out 0 (textOf s)
+unfolding textOf
+text-fits s out h = laid-as-one out 0 (textLines s) (omega (arith, h))
+
+-- past the end nothing is laid
+past : (out : List ℕ) (at : ℕ) (ws : List (List ℕ)) → length out < at → laidLines out at ws ≡ out
+past out at [] h = refl
+past out at (w ∷ ws) h =
+    ap (λ (o : List ℕ). laidLines o (at + length w) ws) (sym (laid-short out at w (omega arith)))
+    ∙ past out (at + length w) ws (omega arith)
+
+pub none-after : NoneAfter
+none-after out at w ws h =
+    ap (λ (o : List ℕ). laidLines o (at + length w) ws) (sym (laid-short out at w h)) ∙ past out (at + length w) ws h

@@ -2,11 +2,10 @@
 -- Assumes nothing.
 use mathlib.Core.Path.{_≡_}
 use mathlib.Core.Bool.{cond}
-use mathlib.Core.List.{List, _++_}
-use Prim.Native.Nat.{ℕ, _+_, _≤_}
+use mathlib.Core.List.{List, [], _∷_}
+use Prim.Native.Nat.{ℕ, _+_}
 use lib.Dec.{eqb}
 use lib.ListN.{length, getD}
-use lib.Seq.{sets}
 use Rattle.fields.specs.Num.{laid}
 use Rattle.object.specs.declared.Object.{Object}
 use Rattle.block.specs.declared.Block.{Block}
@@ -17,8 +16,13 @@ use Rattle.tables.specs.Tables.{tallied}
 use Rattle.lines.specs.Lines.{lineOf, endOf}
 use Rattle.runs.specs.declared.Run.{Run}
 use Rattle.runs.specs.Runs.{startOf, numberIn}
-use Rattle.printed.specs.Text.{traceRefusal, textOf}
+use Rattle.printed.specs.Text.{traceRefusal, textLines, joined, textOf}
 use Rattle.looking.specs.declared.Laying.{Laying}
+
+-- some lines laid one after the other from a place on, each where it fits
+abbrev pub laidLines : List ℕ → ℕ → List (List ℕ) → List ℕ
+laidLines out at [] = out
+laidLines out at (w ∷ ws) = laidLines (laid out at w) (at + length w) ws
 
 -- after one line more
 abbrev pub lineLaid : Laying → Verdict → Laying
@@ -36,9 +40,9 @@ abbrev pub endAfter : Tally → List ℕ
 endAfter y = endOf (y .accepted) (y .refused)
 
 -- what follows the last step: the line of the 1 or 2 that was found, if one was, and the end line
-abbrev pub lastOf : Laying → List ℕ
+abbrev pub lastOf : Laying → List (List ℕ)
 lastOf l =
-    cond (eqb (l .refusal) 0) (endAfter (l .lines)) (lineOf (numberIn (l .lines)) (Refused (l .refusal)) ++ endAfter (tallied (l .lines) (Refused (l .refusal))))
+    cond (eqb (l .refusal) 0) (endAfter (l .lines) ∷ []) (lineOf (numberIn (l .lines)) (Refused (l .refusal)) ∷ endAfter (tallied (l .lines) (Refused (l .refusal))) ∷ [])
 
 -- the run whose text is being laid
 abbrev pub runOf : Block → List Object → Tally → Laying → Run
@@ -48,17 +52,17 @@ runOf b ys h l = record { state = record { block = b; objects = ys; tally = h };
 abbrev pub Begun : List ℕ → Block → List Object → Tally → Laying → Type 0
 Begun s b ys h l = (traceRefusal s ≡ 0) × (runOf b ys h l ≡ startOf (getD s 0 0)) × (l .at ≡ 0)
 
--- all lines of the steps are laid where the text fits: with what follows the last step it is the text
+-- all lines of the steps are laid: with what follows the last step they are those of the text
 pub record TurnsLaid (s before : List ℕ) (l : Laying) (after : List ℕ) : Type 0 where
-  pub size : l .at + length (lastOf l) ≡ length (textOf s)
-  pub bytes : length (textOf s) ≤ length before → sets after (l .at) (lastOf l) ≡ sets before 0 (textOf s)
+  pub size : l .at + length (joined (lastOf l)) ≡ length (textOf s)
+  pub bytes : laidLines after (l .at) (lastOf l) ≡ laidLines before 0 (textLines s)
 
--- what follows the last step is laid where it fits; the length of all
+-- what follows the last step is laid; the length of all
 pub record LastLaid (before : List ℕ) (l : Laying) (r : ℕ) (after : List ℕ) : Type 0 where
-  pub size : r ≡ l .at + length (lastOf l)
-  pub bytes : r ≤ length before → after ≡ sets before (l .at) (lastOf l)
+  pub size : r ≡ l .at + length (joined (lastOf l))
+  pub bytes : after ≡ laidLines before (l .at) (lastOf l)
 
--- laying a text into any buffer: the length of the text, and the buffer afterwards where the text fits
+-- the lines of a text laid into any buffer, each where it fits, and the length of the text
 pub record Lays (s before : List ℕ) (r : ℕ) (after : List ℕ) : Type 0 where
   pub size : r ≡ length (textOf s)
-  pub bytes : length (textOf s) ≤ length before → after ≡ laid before 0 (textOf s)
+  pub bytes : after ≡ laidLines before 0 (textLines s)

@@ -71,7 +71,7 @@ fn lay_last(out: &mut [u8], l: Laying) -> usize
     l.at + lines::put_end(&mut *out, l.at, lines.accepted, lines.refused)
 }
 
-// Lays the lines of the steps and the end line; answers the length, and where that is more than the buffer has, some lines are left out.
+// Lays the lines of the steps and the end line, each where it fits; answers the length of the text.
 fn lay_steps(trace: &[u8], out: &mut [u8], warps: u8) -> usize
     requires { ⌜ (traceRefusal (now trace) ≡ 0) × (warps ≡ getD (now trace) 0 0) ⌝ }
     ensures { λ r. ⌜ Lays (now (trace .entry)) (now (out .entry)) r (now (out .exit)) ⌝ }
@@ -92,7 +92,7 @@ fn lay_steps(trace: &[u8], out: &mut [u8], warps: u8) -> usize
     lay_last(&mut *out, l)
 }
 
-// Lays the text of a trace; answers its length, and where that is more than the buffer has, some lines are left out.
+// Lays the lines of a trace's text one after the other, each where it fits; answers the length of the text.
 pub fn lay_text(trace: &[u8], out: &mut [u8]) -> usize
     ensures { λ r. ⌜ Lays (now (trace .entry)) (now (out .entry)) r (now (out .exit)) ⌝ }
 {

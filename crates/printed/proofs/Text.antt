@@ -2,7 +2,7 @@
 -- Assumes nothing.
 use mathlib.Core.Path.{_≡_, refl, sym, ap, _∙_}
 use mathlib.Core.Bool.{Bool, true, false}
-use mathlib.Core.List.{List, [], _∷_}
+use mathlib.Core.List.{List, [], _∷_, _++_}
 use Prim.Native.Nat.{ℕ, zero, suc, _+_, _-_, _*_, _≤_, _<_}
 use native.Mathlib.Omega.{arith}
 use borrow.Author.Tests.{le-leb, lt-leb, leb-true, leb-false, ne-eqb, lt-ltb}
@@ -21,25 +21,25 @@ use Rattle.tables.specs.Tables.{Tables}
 use Rattle.tables.specs.Effect.{verdict, after}
 use Rattle.lines.specs.Lines.{mostLine, lineOf}
 use Rattle.lines.proofs.Lines.{line-most}
-use Rattle.printed.specs.Text.{mostBytes, answersFrom, answers, traceRefusal, linesOf, textOfAnswers, textOfRefused, textOf}
+use Rattle.printed.specs.Text.{mostBytes, answersFrom, answers, traceRefusal, linesOf, answerLines, refusedLines, textLines, joined, textOf}
 
 -- ---- a trace that is refused before its steps, and one that is not
 
 module _ (s : List ℕ) where
-  pub text-refused : (traceRefusal s ≡ 0 → ⊥) → textOf s ≡ textOfRefused (traceRefusal s)
-  unfolding textOf
-  text-refused h = rw (ne-eqb (traceRefusal s) 0 h)
+  pub lines-refused : (traceRefusal s ≡ 0 → ⊥) → textLines s ≡ refusedLines (traceRefusal s)
+  unfolding textLines
+  lines-refused h = rw (ne-eqb (traceRefusal s) 0 h)
 
-  pub text-answered : traceRefusal s ≡ 0 → textOf s ≡ textOfAnswers (answers s)
-  unfolding textOf
-  text-answered e = rw e
+  pub lines-answered : traceRefusal s ≡ 0 → textLines s ≡ answerLines (answers s)
+  unfolding textLines
+  lines-answered e = rw e
 
   -- one that is too long, whatever its bytes are
-  pub text-long : mostBytes < length s → textOf s ≡ textOfRefused 21
-  unfolding traceRefusal lowest
+  pub text-long : mostBytes < length s → textOf s ≡ joined (refusedLines 21)
+  unfolding traceRefusal lowest textOf
   text-long h =
       let refused : traceRefusal s ≡ 21 = rw (lt-ltb mostBytes (length s) h) in
-      text-refused (λ z. omega (arith, refused)) ∙ ap textOfRefused refused
+      ap joined (lines-refused (λ z. omega (arith, refused)) ∙ ap refusedLines refused)
 
 -- a step that was read takes two bytes at least, and they are there
 pub moves : (s : List ℕ) (at : ℕ) (st : Step) (c : Cursor) → readAt s at ≡ read.Found st c → (at + 2 ≤ c .at) × (c .at ≤ length s)
@@ -104,6 +104,11 @@ answers-most (suc k) s t at =
     at-place s at (λ e. rw (answers-end s t at (suc k) e) (omega arith)) (λ more n e. rw (answers-stop s t at k more n e) (omega arith))
     (λ more st c e. rw (answers-step s t at k more st c e) (omega (arith, moves s at st c e, answers-most k s (after t st) (c .at))))
 
-pub lines-most : (n : ℕ) (vs : List Verdict) → length (linesOf n vs) ≤ length vs * mostLine
+pub lines-most : (n : ℕ) (vs : List Verdict) → length (joined (linesOf n vs)) ≤ length vs * mostLine
 lines-most n [] = omega arith
-lines-most n (v ∷ vs) = omega (arith, length-append (lineOf n v) (linesOf (suc n) vs), line-most n v, lines-most (suc n) vs)
+lines-most n (v ∷ vs) = omega (arith, length-append (lineOf n v) (joined (linesOf (suc n) vs)), line-most n v, lines-most (suc n) vs)
+
+-- lines and one more
+pub joined-more : (ws : List (List ℕ)) (w : List ℕ) → length (joined (ws ++ w ∷ [])) ≡ length (joined ws) + length w
+joined-more [] w = length-append w [] ∙ omega arith
+joined-more (x ∷ ws) w = omega (arith, length-append x (joined (ws ++ w ∷ [])), length-append x (joined ws), joined-more ws w)

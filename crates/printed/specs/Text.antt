@@ -48,9 +48,9 @@ traceRefusal s =
     lowest ((ltb mostBytes (length s), 21) ∷ (eqb (length s) 0, 2) ∷ (eqb (getD s 0 0) 0 || ltb mostWarps (getD s 0 0), 4) ∷ [])
 
 -- the lines of some answers, numbered from n on
-abbrev pub linesOf : ℕ → List Verdict → List ℕ
+abbrev pub linesOf : ℕ → List Verdict → List (List ℕ)
 linesOf n [] = []
-linesOf n (v ∷ vs) = lineOf n v ++ linesOf (suc n) vs
+linesOf n (v ∷ vs) = lineOf n v ∷ linesOf (suc n) vs
 
 -- how many are accepted, and how many refused
 abbrev pub acceptedIn : List Verdict → ℕ
@@ -63,17 +63,26 @@ refusedIn [] = 0
 refusedIn (Accepted v d m ∷ vs) = refusedIn vs
 refusedIn (Refused n ∷ vs) = suc (refusedIn vs)
 
--- the text of some answers: a line for each from 1 on, and the end line
-abbrev pub textOfAnswers : List Verdict → List ℕ
-textOfAnswers vs = linesOf 1 vs ++ endOf (acceptedIn vs) (refusedIn vs)
+-- what some answers print: a line for each from 1 on, and the end line
+abbrev pub answerLines : List Verdict → List (List ℕ)
+answerLines vs = linesOf 1 vs ++ endOf (acceptedIn vs) (refusedIn vs) ∷ []
 
 -- a trace refused before its steps prints `0 no R` and `end 0 1`
-abbrev pub textOfRefused : ℕ → List ℕ
-textOfRefused r = lineOf 0 (Refused r) ++ endOf 0 1
+abbrev pub refusedLines : ℕ → List (List ℕ)
+refusedLines r = lineOf 0 (Refused r) ∷ endOf 0 1 ∷ []
+
+-- the lines that a trace prints
+unfoldable pub textLines : List ℕ → List (List ℕ)
+textLines s = cond (eqb (traceRefusal s) 0) (answerLines (answers s)) (refusedLines (traceRefusal s))
+
+-- some lines, one after the other
+abbrev pub joined : List (List ℕ) → List ℕ
+joined [] = []
+joined (w ∷ ws) = w ++ joined ws
 
 -- the text of a trace
 unfoldable pub textOf : List ℕ → List ℕ
-textOf s = cond (eqb (traceRefusal s) 0) (textOfAnswers (answers s)) (textOfRefused (traceRefusal s))
+textOf s = joined (textLines s)
 
 -- ---- room for the text
 

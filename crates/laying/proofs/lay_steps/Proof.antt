@@ -37,7 +37,7 @@ returns c =
     let last = c .before .before .lay-last in
     let t = c .before .before .before .before .before .before in
     let a = t .before .before .before .before .before .before .before .before .before .before .args in
-    lays-all (now (a .trace)) (now (a .out)) (t .lay-turns .last .1 .0) (last .last .0) (t .lay-turns .result) (last .result) (t .lay-turns .kept .1 .0) (t .lay-turns .ensures) (last .ensures)
+    lays-all (now (a .trace)) (now (a .out)) (t .lay-turns .last .1 .0) (last .last .0) (t .lay-turns .result) (last .result) (t .lay-turns .ensures) (last .ensures)
 
 pub lay-steps-spec : {M : Type 1} → statement M
 lay-steps-spec =

@@ -1,19 +1,19 @@
 -- `laying::lay_text` meets its contract: a trace refused before its steps has two lines, and any other is laid step by step.
 -- Assumes nothing.
-use mathlib.Core.Path.{_≡_, sym, ap, _∙_, subst}
-use Prim.Native.Nat.{ℕ, _+_, _≤_}
+use mathlib.Core.Path.{_≡_, sym, ap, _∙_}
+use mathlib.Core.List.{[], _++_}
+use Prim.Native.Nat.{_+_}
 use native.Mathlib.Omega.{arith}
 use borrow.Author.Needs.{needs}
 use denote.Ref.{now}
-use lib.ListN.{length, length-append}
-use Rattle.fields.specs.Num.{laid}
+use lib.ListN.{length-append}
 use Rattle.block.specs.declared.Verdict.the-variants.{Refused}
 use Rattle.lines.specs.Lines.{lineOf, endOf}
-use Rattle.printed.specs.Text.{textOfRefused, textOf}
+use Rattle.printed.specs.Text.{refusedLines, textLines, textOf}
 use Rattle.laying.specs.Buffer.{Lays}
-use Rattle.printed.proofs.Text.{text-refused}
+use Rattle.printed.proofs.Text.{lines-refused}
 use Rattle.printed.proofs.Turns.{begins}
-use Rattle.laying.proofs.Buffer.{text-small, laid-two}
+use Rattle.laying.proofs.Buffer.{text-small, two-laid}
 use Rattle.laying.proofs.lay_text.Statement.{statement}
 use Rattle.laying.proofs.lay_text.Tie as tie
 
@@ -23,21 +23,18 @@ entered p = p .before .before .before .before .before .before .before .before .b
 
 two-lines : (p : tie.After-put-end)
     → Lays (now (entered p .args .trace)) (now (entered p .args .out)) (p .before .before .before .before .put-line .result + p .put-end .result) (p .put-end .last .0)
+unfolding textOf
 two-lines p =
     let q = p .before .before .before .before in
     let t = q .before .before .before in
     let a = entered p .args in
     let n = t .trace-refusal .result in
-    let is : textOf (now (a .trace)) ≡ textOfRefused n =
-    text-refused (now (a .trace)) (λ z. q .before .before .if1 .taken (t .trace-refusal .ensures ∙ z))
-    ∙ ap textOfRefused (sym (t .trace-refusal .ensures)) in
-    let size = length-append (lineOf 0 (Refused n)) (endOf 0 1) in
+    let is : textLines (now (a .trace)) ≡ refusedLines n =
+    lines-refused (now (a .trace)) (λ z. q .before .before .if1 .taken (t .trace-refusal .ensures ∙ z))
+    ∙ ap refusedLines (sym (t .trace-refusal .ensures)) in
     record {
-      size = (λ i. q .put-line .ensures .0 i + p .put-end .ensures .0 i) ∙ sym size ∙ sym (ap length is);
-      bytes = λ h.
-          laid-two (now (a .out)) (q .put-line .last .0) (p .put-end .last .0) (lineOf 0 (Refused n)) (endOf 0 1) (q .put-line .result) (q .put-line .ensures .0)
-          (q .put-line .ensures .1) (p .put-end .ensures .1) (q .put-line .kept .0) (subst (λ (k : ℕ). k ≤ length (now (a .out))) (ap length is) h)
-          ∙ ap (laid (now (a .out)) 0) (sym is);
+      size = rw is (omega (arith, q .put-line .ensures .0, p .put-end .ensures .0, length-append (lineOf 0 (Refused n)) (endOf 0 1 ++ []), length-append (endOf 0 1) []));
+      bytes = rw is (two-laid (now (a .out)) (q .put-line .last .0) (p .put-end .last .0) (lineOf 0 (Refused n)) (endOf 0 1) (q .put-line .result) (q .put-line .ensures .0) (q .put-line .ensures .1) (p .put-end .ensures .1));
     }
 
 trace-refusal-requires : tie.Need-trace-refusal-requires
