@@ -3,13 +3,13 @@
 use mathlib.Core.Path.{_≡_, refl, sym, ap, ap₂, _∙_, subst}
 use mathlib.Core.Bool.{Bool, true, false, _&&_, _||_, or-false, or-true}
 use mathlib.Core.Logic.{⊎-elim}
-use Prim.Native.Nat.{ℕ, zero, suc, _+_, _-_, _*_, _/_, _%_, _^_, _<_, _≤_}
+use Prim.Native.Nat.{ℕ, zero, suc, _+_, _-_, _*_, _/_, _%_, _^_, _<_, _≤_, min}
 use native.Mathlib.Nat.{mod-lt, mod-one, mul-comm, mul-assoc, one-mul, add-comm, pow-suc, mul-mod-left, mod-eq-of-lt, div-eq-of-lt, not-suc-le-zero, le-of-suc-le-suc, eq-or-lt-of-le, lt-of-lt-of-le, le-antisymm, add-zero, add-suc, zero-mul}
 use native.Mathlib.Numerals.{add-one, one-add}
 use native.Mathlib.Omega.{arith}
-use lib.Arith.{lt-of-le-ne, lt-one}
-use lib.Bits.{bitAnd, and-lt, bitOr, and-shr, and-mod, or-shr, or-mod, or-lt}
-use lib.Count.{ones, onesIn, ones-cat}
+use lib.Arith.{bin-ind, lt-of-le-ne, lt-one}
+use lib.Bits.{bitAnd, and-step, and-self, and-lt, bitOr, and-shr, and-mod, or-shr, or-mod, or-lt}
+use lib.Count.{ones, onesIn, ones-step, ones-cat}
 use lib.Dec.{eqb, ltb, lit<}
 use lib.Pow.{recompose, field, mod-mod-pow, pow-pos, pow-lt, pow-mono, pow-add, mod-pow-add, shl-exact, shl-shr, high, low}
 use mir.Val.{boolByte}
@@ -168,20 +168,11 @@ within-all n s l h = lt-ltb s (2 ^ n) (lt-of-lt-of-le l (pow-mono h))
 
 -- ---- sizes
 
--- one digit more is counted
-pub size-more : (i s : ℕ) → sizeBelow (i + 1) s ≡ sizeBelow i s + s / 2 ^ i % 2
-unfolding sizeBelow
-size-more i s = rw add-one
-
 -- n digits count n at most
 pub size-le : (n s : ℕ) → sizeBelow n s ≤ n
 unfolding sizeBelow
 size-le zero s = omega arith
 size-le (suc n) s = omega (arith, size-le n s)
-
--- a loop that counts to n has looked at them all
-pub size-end : (s n i : ℕ) → i ≤ n → n ≤ i → sizeBelow i s ≡ sizeBelow n s
-size-end s n i a b = rw (le-antisymm a b)
 
 pub size-none : (n : ℕ) → sizeBelow n 0 ≡ 0
 unfolding sizeBelow
@@ -228,6 +219,27 @@ size-low (suc k) s =
 
 pub size-ones : (k s : ℕ) → s < 2 ^ k → sizeBelow k s ≡ ones s
 size-ones k s h = size-low k s ∙ ap ones (mod-eq-of-lt h)
+
+-- digit 0 is 1 in a mask or in one less than it, never in both
+ones-halves : (s : ℕ) → 0 < s → ones (bitAnd s (s - 1)) ≡ ones (bitAnd (s / 2) ((s - 1) / 2))
+ones-halves s h =
+    let z : min (s % 2) ((s - 1) % 2) ≡ 0 = omega arith in
+    rw (and-step s (s - 1), z) (ones-cat 1 _ 0 (lit< tt) ∙ rw (ones-digit 0 (lit< tt)) (add-zero _))
+
+-- `s & (s - 1)` has one member less: of an odd mask it takes warp 0 away, of an even one the lowest of its half
+abbrev OneLess : ℕ → Type 0
+OneLess s = 0 < s → ones s ≡ ones (bitAnd s (s - 1)) + 1
+
+pub ones-less : (s : ℕ) → OneLess s
+ones-less = bin-ind OneLess (λ h. absurd (omega arith)) (λ s ih. go s ih (s % 2) refl)
+  where
+    go : (s : ℕ) → OneLess (s / 2) → (d : ℕ) → s % 2 ≡ d → OneLess s
+    go s ih zero e h =
+        let p : (s - 1) / 2 ≡ s / 2 - 1 = omega arith in
+        rw (ones-halves s h, p) (omega (arith, ones-step s, ih (omega arith)))
+    go s ih (suc d) e h =
+        let p : (s - 1) / 2 ≡ s / 2 = omega arith in
+        rw (ones-halves s h, p, and-self (s / 2)) (omega (arith, ones-step s))
 
 -- ---- the set of a test
 

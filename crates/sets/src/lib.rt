@@ -39,10 +39,11 @@ pub fn size(set: u32) -> u32
     ensures { λ r. ⌜ r ≡ sizeOf set ⌝ }
 {
     let mut n: u32 = 0;
-    let mut w: u32 = 0;
-    while w < 32 {
-        n += (set >> w) % 2;
-        w += 1;
+    let mut rest = set;
+    while rest != 0 {
+        // takes the lowest member away
+        rest = rest & (rest - 1);
+        n += 1;
     }
     n
 }
