@@ -1,18 +1,14 @@
 -- Laws about a text that is being laid.
 -- Assumes nothing.
 use mathlib.Core.Path.{_≡_, refl, sym, ap, _∙_}
-use mathlib.Core.Bool.{Bool, true, false, true≢false}
+use mathlib.Core.Bool.{true, false, true≢false}
 use mathlib.Core.List.{List, [], _∷_, _++_}
 use Prim.Native.Nat.{ℕ, _+_, _-_, _≤_, _<_}
 use native.Mathlib.Omega.{arith}
 use native.Mathlib.Nat.{zero-add}
-use borrow.Author.Tests.{leb-true, leb-false, ne-eqb}
-use lib.Dec.{leb}
+use borrow.Author.Tests.{ne-eqb}
 use lib.ListN.{length, length-append}
-use lib.Seq.{sets, length-sets}
 use Rattle.fields.specs.Num.{laid}
-use Rattle.fields.proofs.Num.{laid-fits, laid-short}
-use Rattle.lines.proofs.Stores.{sets-append}
 use Rattle.lines.specs.Lines.{mostLine, lineOf}
 use Rattle.object.specs.declared.Object.{Object}
 use Rattle.block.specs.declared.Block.{Block}
@@ -27,22 +23,15 @@ use Rattle.owned.specs.Owner.{ownedStep}
 use Rattle.runs.specs.declared.Run.{Run}
 use Rattle.runs.specs.Runs.{numberIn}
 use Rattle.printed.specs.Text.{textLines, joined, textOf}
+use Rattle.printed.specs.Buffer.{laidLines}
 use Rattle.printed.proofs.Text.{moves, at-place}
+use Rattle.printed.proofs.Buffer.{laid-length, laid-as-one}
 use Rattle.printed.proofs.Turns.{left, left-end, left-stop, left-step, left-start}
 use Rattle.printed.proofs.Laws.{room-is-enough}
 use Rattle.looking.specs.declared.Laying.{Laying}
 use Rattle.looking.specs.Places.{looked}
 use Rattle.looking.proofs.Places.{look-end, look-stop, look-step, refusal-some}
-use Rattle.laying.specs.Laws.{LaidAsOne, NoneAfter}
-use Rattle.laying.specs.Buffer.{laidLines, lineLaid, endAfter, lastOf, runOf, Begun, TurnsLaid, LastLaid, Lays}
-
--- bytes laid in keep the length
-laid-length : (out : List ℕ) (at : ℕ) (bs : List ℕ) → length (laid out at bs) ≡ length out
-laid-length out at bs = within (leb (at + length bs) (length out)) refl
-  where
-    within : (b : Bool) → leb (at + length bs) (length out) ≡ b → length (laid out at bs) ≡ length out
-    within true e = ap length (sym (laid-fits out at bs (leb-true (at + length bs) (length out) e))) ∙ length-sets out at bs
-    within false e = ap length (sym (laid-short out at bs (leb-false (at + length bs) (length out) e)))
+use Rattle.laying.specs.Buffer.{lineLaid, endAfter, lastOf, runOf, Begun, TurnsLaid, LastLaid, Lays}
 
 -- ---- what is left to lay, laid, gives what all of it gives
 
@@ -160,36 +149,7 @@ two-laid out mid after w x k size e f =
     let place : k ≡ 0 + length w = size ∙ sym (zero-add (length w)) in
     f ∙ (λ i. laid (e i) (place i) x)
 
--- ---- lines that fit, and lines that don't
-
--- nothing laid in changes nothing
-laid-none : (out : List ℕ) (at : ℕ) → at ≤ length out → laid out at [] ≡ out
-laid-none out at h = sym (laid-fits out at [] (omega (arith, h)))
-
-pub laid-as-one : LaidAsOne
-laid-as-one out at [] h = sym (laid-none out at (omega arith))
-laid-as-one out at (w ∷ ws) h =
-    let rest = joined ws in
-    let both = length-append w rest in
-    let one = laid-fits out at w (omega arith) in
-    laid-as-one (laid out at w) (at + length w) ws (omega (arith, laid-length out at w))
-    ∙ sym (laid-fits (laid out at w) (at + length w) rest (omega (arith, laid-length out at w)))
-    ∙ ap (λ (o : List ℕ). sets o (at + length w) rest) (sym one)
-    ∙ sets-append out at (at + length w) w rest refl
-    ∙ laid-fits out at (w ++ rest) (omega arith)
-
--- and so is a whole text
+-- a text that fits is laid whole
 pub text-fits : (s out : List ℕ) → length (textOf s) ≤ length out → laidLines out 0 (textLines s) ≡ laid out 0 (textOf s)
 unfolding textOf
 text-fits s out h = laid-as-one out 0 (textLines s) (omega (arith, h))
-
--- past the end nothing is laid
-past : (out : List ℕ) (at : ℕ) (ws : List (List ℕ)) → length out < at → laidLines out at ws ≡ out
-past out at [] h = refl
-past out at (w ∷ ws) h =
-    ap (λ (o : List ℕ). laidLines o (at + length w) ws) (sym (laid-short out at w (omega arith)))
-    ∙ past out (at + length w) ws (omega arith)
-
-pub none-after : NoneAfter
-none-after out at w ws h =
-    ap (λ (o : List ℕ). laidLines o (at + length w) ws) (sym (laid-short out at w h)) ∙ past out (at + length w) ws h

@@ -6,7 +6,6 @@ use mathlib.Core.List.{List, [], _∷_}
 use Prim.Native.Nat.{ℕ, _+_}
 use lib.Dec.{eqb}
 use lib.ListN.{length, getD}
-use Rattle.fields.specs.Num.{laid}
 use Rattle.object.specs.declared.Object.{Object}
 use Rattle.block.specs.declared.Block.{Block}
 use Rattle.block.specs.declared.Verdict.{Verdict}
@@ -17,12 +16,8 @@ use Rattle.lines.specs.Lines.{lineOf, endOf}
 use Rattle.runs.specs.declared.Run.{Run}
 use Rattle.runs.specs.Runs.{startOf, numberIn}
 use Rattle.printed.specs.Text.{traceRefusal, textLines, joined, textOf}
+use Rattle.printed.specs.Buffer.{laidLines}
 use Rattle.looking.specs.declared.Laying.{Laying}
-
--- some lines laid one after the other from a place on, each where it fits
-abbrev pub laidLines : List ℕ → ℕ → List (List ℕ) → List ℕ
-laidLines out at [] = out
-laidLines out at (w ∷ ws) = laidLines (laid out at w) (at + length w) ws
 
 -- after one line more
 abbrev pub lineLaid : Laying → Verdict → Laying

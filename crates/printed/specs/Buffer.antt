@@ -1,12 +1,16 @@
--- What is claimed of lines that are laid each where it fits.
+-- Lines laid into a buffer.
 -- Assumes nothing.
 use mathlib.Core.Path.{_≡_}
-use mathlib.Core.List.{List, _∷_}
+use mathlib.Core.List.{List, [], _∷_}
 use Prim.Native.Nat.{ℕ, _+_, _≤_, _<_}
 use lib.ListN.{length}
 use Rattle.fields.specs.Num.{laid}
 use Rattle.printed.specs.Text.{joined}
-use Rattle.laying.specs.Buffer.{laidLines}
+
+-- some lines laid one after the other from a place on, each where it fits
+abbrev pub laidLines : List ℕ → ℕ → List (List ℕ) → List ℕ
+laidLines out at [] = out
+laidLines out at (w ∷ ws) = laidLines (laid out at w) (at + length w) ws
 
 -- lines that all fit are laid as one text
 abbrev pub LaidAsOne : Type 0
