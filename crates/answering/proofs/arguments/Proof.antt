@@ -40,7 +40,7 @@ returns c =
     let t = a .before .before .before in
     let l = t .before .loop in
     stopped _ (l .i) (l .written) _ (l .inv .2) (l .inv .3) (l .inv .4) (a .argument .ensures)
-    (l .inv .0) (t .loop-test .taken) (sym (c .before .all .ensures) ∙ not-true _ (c .if1 .taken))
+    (l .inv .0) (omega (arith, t .loop-test .taken)) (sym (c .before .all .ensures) ∙ not-true _ (c .if1 .taken))
 
 add-i : tie.Need-add-i Inv-loop μ-loop
 add-i c = search needs
