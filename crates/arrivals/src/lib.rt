@@ -8,7 +8,7 @@ use block::Status;
 use block::Warp;
 ghost use mathlib.Core.Path.{_≡_};
 ghost use Rattle.barriers.specs.Steps.{callRefusal};
-ghost use Rattle.barriers.specs.Changes.{Arrives};
+ghost use Rattle.barriers.specs.Changes.{arrivalMoved};
 
 // The lowest of lines 7 to 10 that applies to the call of warp w at a barrier of row r, in a block of so many warps, and 0 if none does.
 fn call_refusal(warps: u8, r: Barrier, w: u8, c: Call) -> u8
@@ -31,9 +31,9 @@ fn call_refusal(warps: u8, r: Barrier, w: u8, c: Call) -> u8
     0
 }
 
-// Sync, arrive and red: what the arrival of warp w at barrier k changes in any block of so many warps, of which those of alive have not exited, where these are the rows of the warp and the barrier.
+// Sync, arrive and red: what the arrival of warp w at barrier k changes in a block of so many warps, of which those of alive have not exited, where these are the rows of the warp and the barrier.
 pub fn arrival(warps: u8, alive: u32, warp: Warp, barrier: Barrier, w: u8, k: u8, c: Call) -> Moved
-    ensures { λ m. ⌜ Arrives warps alive warp barrier w k c m ⌝ }
+    ensures { λ m. ⌜ m ≡ arrivalMoved warps alive warp barrier w k c ⌝ }
 {
     let n = barriers::warp_refusal(warps, warp, w);
     if n != 0 {

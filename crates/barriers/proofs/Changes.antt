@@ -1,6 +1,6 @@
--- Laws of changes: which change is which turn of a block.
+-- Laws of changes: which change is which turn of a block, and the tests that lead to an arrival's and to an exit's.
 -- Assumes nothing.
-use mathlib.Core.Path.{_≡_, refl, sym, ap, subst, _∙_}
+use mathlib.Core.Path.{_≡_, refl, sym, ap, _∙_}
 use mathlib.Core.Bool.{Bool, true, false, not, cond, _&&_, and-false, false≢true}
 use mathlib.Core.List.{List, [], _∷_}
 use Prim.Native.Nat.{ℕ, zero, suc, _<_, _≤_, _^_}
@@ -11,11 +11,11 @@ use lib.Bits.{bitAnd, bitOr, and-le-l}
 use lib.Dec.{eqb, ltb}
 use lib.ListN.{length, getD, set}
 use lib.Seq.{set-out, getD-set-same, getD-set-other}
-use borrow.Author.Tests.{eq-eqb, ltb-true, ltb-false}
+use borrow.Author.Tests.{eq-eqb, ne-eqb, lt-ltb, le-ltb, ltb-true, ltb-false}
 use Rattle.folds.specs.Folds.{first, every, firsts}
 use Rattle.sets.specs.Sets.{has, put, part}
 use Rattle.sets.proofs.Sets.{has-none, has-and, has-put-own, has-put-other, has-setOf, setOf-lt, ext, part-has}
-use Rattle.block.specs.Tables.{mostWarps, barrierCount, freshWarp, idle, warpAt, barrierAt, isIdle, isExited, liveOf}
+use Rattle.block.specs.Tables.{mostWarps, barrierCount, freshWarp, idle, barrierAt, isIdle, isExited, liveOf}
 use Rattle.barrier_row.specs.Rows.{arrivedRow, completes, releasedWarp}
 use Rattle.block.specs.declared.Status.the-variants.{Ready, Waiting, Exited}
 use Rattle.block.specs.declared.Warp.{Warp}
@@ -25,9 +25,9 @@ use Rattle.block.specs.declared.Call.{Call}
 use Rattle.block.specs.declared.Verdict.{Verdict}
 use Rattle.block.specs.declared.Verdict.the-variants.{Accepted}
 use Rattle.block.specs.declared.Turn.{Turn}
-use Rattle.barriers.specs.Steps.{warpLine, warpRefusal, callRefusal, arrivalRefusal, releasedWarps, completed, goesOn, refused, arrival, without, opened, exit}
-use Rattle.barriers.specs.Changes.{withStatus, changed, noChange, made, refusing, goingOn, completing, Seen, firstOpening, SeenAll}
-use Rattle.barriers.proofs.Steps.{row-line, warp-line, line-6, call-line, is-refused, is-completed, is-going-on, exit-refused, exit-completes, exit-alone}
+use Rattle.barriers.specs.Steps.{warpLine, warpRefusal, callRefusal, arrivalLine, arrivalRefusal, releasedWarps, completed, goesOn, refused, arrival, without, opened, exit}
+use Rattle.barriers.specs.Changes.{withStatus, changed, noChange, made, refusing, goingOn, completing, arriving, arrivalMoved, ArrivalSeen, firstOpening, exiting, exitMoved, ExitSeen}
+use Rattle.barriers.proofs.Steps.{warp-line, line-6, call-line}
 
 -- where none waits, none is released
 freed-none : (n i : ℕ) (ws : List Warp) → firsts n i (λ w x. cond (has 0 w) (releasedWarp idle x) x) ws ≡ ws
@@ -74,58 +74,60 @@ module _ (b : Block) (l : length (b .rows) ≡ mostWarps) (m : length (b .barrie
   pub made-exited : (w : ℕ) → made b (goingOn w Exited barrierCount idle) ≡ record { verdict = Accepted 0 false 0; block = without b w }
   made-exited w = same-turn _ _ (none-released (withStatus (b .rows) w Exited)) no-barrier
 
--- the line of a row that is the warp's is the warp's
-of-warp : (b : Block) (n : ℕ) (x : Warp) (w : ℕ) → b .warps ≡ n → warpAt b w ≡ x → (m : ℕ) → m ≡ warpLine n x w → m ≡ warpRefusal b w
-of-warp b n x w p q m e = e ∙ (λ i. warpLine (sym p i) (sym q i) w) ∙ row-line b w
+-- ---- an arrival, by the rows that it looks at
 
--- ---- an arrival, by what it sees
+pub arrival-seen : ArrivalSeen
+unfolding arrivalMoved arrivalLine arrival arrivalRefusal
+arrival-seen b w k c l m =
+    let n = arrivalRefusal b w k c in
+    let r = arrivedRow (barrierAt b k) w c in
+    go n r (eqb n 0) (completes (liveOf b) r) (c .waits)
+  where
+    go : (n : ℕ) (r : Barrier) (t u v : Bool)
+        → made b (cond t (cond u (completing mostWarps Ready k r) (cond v (goingOn w (Waiting k) k r) (goingOn mostWarps Ready k r))) (refusing n))
+        ≡ cond t (cond u (completed b k r) (goesOn b k r w v)) (refused b n)
+    go n r true true v = made-completed b l m k r
+    go n r true false true = made-waits b l m w k r
+    go n r true false false = made-arrives b l m w k r
+    go n r false u v = made-refused b l m n
 
-module _ (b : Block) (n alive : ℕ) (x : Warp) (r : Barrier) (w k : ℕ) (c : Call) (see : Seen b n alive x r w k) where
-  its-line : (m : ℕ) → m ≡ warpLine n x w → m ≡ warpRefusal b w
-  its-line = of-warp b n x w (see .warps) (see .warp)
+-- its change, by the tests on the way to it
+module _ (n alive : ℕ) (x : Warp) (r : Barrier) (w k : ℕ) (c : Call) where
+  of-line : (m : ℕ) → m ≡ arrivalLine n x r w k c → (m ≡ 0 → ⊥) → refusing m ≡ arrivalMoved n alive x r w k c
+  unfolding arrivalMoved
+  of-line m e h = rw (← e, ne-eqb m 0 h)
 
-  of-call : (m : ℕ) → m ≡ callRefusal n r w c → m ≡ callRefusal (b .warps) (barrierAt b k) w c
-  of-call m e = rw (see .warps, see .barrier) e
+  module _ (m : ℕ) (said : m ≡ warpLine n x w) where
+    pub arrival-no-warp : (m ≡ 0 → ⊥) → refusing m ≡ arrivalMoved n alive x r w k c
+    arrival-no-warp h = of-line m (warp-line n x r w k c m said h) h
 
-  is-line : (m : ℕ) → m ≡ arrivalRefusal b w k c → (m ≡ 0 → ⊥) → made b (refusing m) ≡ arrival b w k c
-  is-line m e h = made-refused b (see .rows) (see .barriers) m ∙ is-refused b w k c m e h
+    module _ (ready : m ≡ 0) where
+      pub arrival-no-barrier : barrierCount ≤ k → refusing 6 ≡ arrivalMoved n alive x r w k c
+      arrival-no-barrier h = of-line 6 (line-6 n x r w k c m said ready h) (λ z. omega arith)
 
-  pub seen-warp : (m : ℕ) → m ≡ warpLine n x w → (m ≡ 0 → ⊥) → made b (refusing m) ≡ arrival b w k c
-  seen-warp m e h = is-line m (warp-line b w k c m (its-line m e) h) h
+      module _ (there : k < barrierCount) (j : ℕ) (called : j ≡ callRefusal n r w c) where
+        line : j ≡ arrivalLine n x r w k c
+        line = called ∙ call-line n x r w k c m said ready there
 
-  module _ (m : ℕ) (said : m ≡ warpLine n x w) (ready : m ≡ 0) where
-    free : warpRefusal b w ≡ 0
-    free = sym (its-line m said) ∙ ready
+        pub arrival-no-call : (j ≡ 0 → ⊥) → refusing j ≡ arrivalMoved n alive x r w k c
+        arrival-no-call h = of-line j line h
 
-    pub seen-6 : barrierCount ≤ k → made b (refusing 6) ≡ arrival b w k c
-    seen-6 h = is-line 6 (line-6 b w k c free h) (λ z. omega arith)
+        module _ (none : j ≡ 0) (r′ : Barrier) (arrived : r′ ≡ arrivedRow r w c) where
+          arrival-accepted : arriving alive r′ w k (c .waits) ≡ arrivalMoved n alive x r w k c
+          unfolding arrivalMoved
+          arrival-accepted = ap (λ (y : Barrier). arriving alive y w k (c .waits)) arrived ∙ rw (← line, none)
 
-    module _ (there : k < barrierCount) (j : ℕ) (called : j ≡ callRefusal n r w c) where
-      line : j ≡ arrivalRefusal b w k c
-      line = call-line b w k c free there j (of-call j called)
+          pub arrival-completes : completes alive r′ ≡ true → completing mostWarps Ready k r′ ≡ arrivalMoved n alive x r w k c
+          arrival-completes h = rw (← arrival-accepted, h)
 
-      pub seen-call : (j ≡ 0 → ⊥) → made b (refusing j) ≡ arrival b w k c
-      seen-call h = is-line j line h
+          module _ (goes : completes alive r′ ≡ false) where
+            pub arrival-waits : c .waits ≡ true → goingOn w (Waiting k) k r′ ≡ arrivalMoved n alive x r w k c
+            arrival-waits h = rw (← arrival-accepted, goes, h)
 
-      module _ (none : j ≡ 0) (r′ : Barrier) (arrived : r′ ≡ arrivedRow r w c) where
-        arrived-there : r′ ≡ arrivedRow (barrierAt b k) w c
-        arrived-there = arrived ∙ ap (λ (y : Barrier). arrivedRow y w c) (sym (see .barrier))
+            pub arrival-goes-on : c .waits ≡ false → goingOn mostWarps Ready k r′ ≡ arrivalMoved n alive x r w k c
+            arrival-goes-on h = rw (← arrival-accepted, goes, h)
 
-        pub seen-completes : completes alive r′ ≡ true → made b (completing mostWarps Ready k r′) ≡ arrival b w k c
-        seen-completes h =
-            made-completed b (see .rows) (see .barriers) k r′
-            ∙ is-completed b w k c r′ arrived-there alive (sym (see .live)) (sym line ∙ none) h
-
-        goes-on : completes alive r′ ≡ false → goesOn b k r′ w (c .waits) ≡ arrival b w k c
-        goes-on h = is-going-on b w k c r′ arrived-there alive (sym (see .live)) (sym line ∙ none) h
-
-        pub seen-waits : completes alive r′ ≡ false → c .waits ≡ true → made b (goingOn w (Waiting k) k r′) ≡ arrival b w k c
-        seen-waits h e = made-waits b (see .rows) (see .barriers) w k r′ ∙ ap (goesOn b k r′ w) (sym e) ∙ goes-on h
-
-        pub seen-arrives : completes alive r′ ≡ false → c .waits ≡ false → made b (goingOn mostWarps Ready k r′) ≡ arrival b w k c
-        seen-arrives h e = made-arrives b (see .rows) (see .barriers) w k r′ ∙ ap (goesOn b k r′ w) (sym e) ∙ goes-on h
-
--- ---- an exit, by what it sees
+-- ---- an exit, by the rows that it looks at
 
 -- a set whose every warp another has is a part of it
 part-in : (a s : ℕ) → a < 2 ^ mostWarps → ((v : ℕ) → v < mostWarps → has a v ≡ true → has s v ≡ true) → part a s ≡ true
@@ -184,29 +186,37 @@ module _ (b : Block) (w : ℕ) (l : length (b .rows) ≡ mostWarps) where
           (sym (set-out (b .rows) w _ (rw l (ltb-false w mostWarps e))))
 
 -- the barrier that opens is found on the rows
-module _ (b : Block) (n alive : ℕ) (x : Warp) (rs : List Barrier) (w : ℕ) (see : SeenAll b n alive x rs w) (sixteen : length rs ≡ barrierCount) where
-  same-opened : firstOpening rs alive w ≡ opened (without b w)
-  same-opened =
-      (λ i. firstOpening (sym (see .barriers) i) (sym (see .live) i) w)
-      ∙ (λ i. first barrierCount (λ k. every (not (isIdle (barrierAt b k .form)) ∷ eqb (barrierAt b k .threads) 0 ∷ part-without b w (see .rows) (barrierAt b k .arrived) i ∷ [])))
+same-opened : (b : Block) (w : ℕ) → length (b .rows) ≡ mostWarps → firstOpening (b .barriers) (liveOf b) w ≡ opened (without b w)
+same-opened b w l =
+    λ i. first barrierCount (λ k. every (not (isIdle (barrierAt b k .form)) ∷ eqb (barrierAt b k .threads) 0 ∷ part-without b w l (barrierAt b k .arrived) i ∷ []))
 
-  its-count : length (b .barriers) ≡ barrierCount
-  its-count = ap length (see .barriers) ∙ sixteen
+pub exit-seen : ExitSeen
+unfolding exitMoved warpLine exit warpRefusal
+exit-seen b w l m =
+    let n = warpRefusal b w in
+    let k = opened (without b w) in
+    rw (same-opened b w l) (go n k (eqb n 0) (ltb k barrierCount))
+  where
+    go : (n k : ℕ) (t u : Bool)
+        → made b (cond t (cond u (completing w Exited k (barrierAt b k)) (goingOn w Exited barrierCount idle)) (refusing n))
+        ≡ cond t (cond u (completed (without b w) k (barrierAt b k)) (record { verdict = Accepted 0 false 0; block = without b w })) (refused b n)
+    go n k true true = refl
+    go n k true false = made-exited b l m w
+    go n k false u = made-refused b l m n
 
-  pub seen-no-exit : (m : ℕ) → m ≡ warpLine n x w → (m ≡ 0 → ⊥) → made b (refusing m) ≡ exit b w
-  seen-no-exit m e h = made-refused b (see .rows) its-count m ∙ exit-refused b w m (of-warp b n x w (see .warps) (see .warp) m e) h
+-- its change, by the tests on the way to it
+module _ (n alive : ℕ) (x : Warp) (rs : List Barrier) (w m : ℕ) (said : m ≡ warpLine n x w) where
+  pub exit-no-warp : (m ≡ 0 → ⊥) → refusing m ≡ exitMoved n alive x rs w
+  unfolding exitMoved
+  exit-no-warp h = rw (← said, ne-eqb m 0 h)
 
-  module _ (m : ℕ) (said : m ≡ warpLine n x w) (ready : m ≡ 0) (k : ℕ) (found : k ≡ firstOpening rs alive w) where
-    leaves : warpRefusal b w ≡ 0
-    leaves = sym (of-warp b n x w (see .warps) (see .warp) m said) ∙ ready
+  module _ (ready : m ≡ 0) (k : ℕ) (found : k ≡ firstOpening rs alive w) where
+    exit-accepted : exiting rs w k ≡ exitMoved n alive x rs w
+    unfolding exitMoved
+    exit-accepted = ap (exiting rs w) found ∙ rw (← said, ready)
 
-    here : k ≡ opened (without b w)
-    here = found ∙ same-opened
+    pub exit-completes : k < barrierCount → completing w Exited k (getD rs k idle) ≡ exitMoved n alive x rs w
+    exit-completes h = rw (← exit-accepted, lt-ltb k barrierCount h)
 
-    pub seen-exit-completes : k < barrierCount → made b (completing w Exited k (getD rs k idle)) ≡ exit b w
-    seen-exit-completes h =
-        (λ i. completed (without b w) (here i) (getD (sym (see .barriers) i) (here i) idle))
-        ∙ exit-completes b w leaves (subst (λ (j : ℕ). j < barrierCount) here h)
-
-    pub seen-exit-alone : barrierCount ≤ k → made b (goingOn w Exited barrierCount idle) ≡ exit b w
-    seen-exit-alone h = made-exited b (see .rows) its-count w ∙ exit-alone b w leaves (subst (λ (j : ℕ). barrierCount ≤ j) here h)
+    pub exit-alone : barrierCount ≤ k → goingOn w Exited barrierCount idle ≡ exitMoved n alive x rs w
+    exit-alone h = rw (← exit-accepted, le-ltb k barrierCount h)

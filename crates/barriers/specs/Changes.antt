@@ -1,17 +1,17 @@
--- What a step changes in the block, and the block so changed.
+-- What a step changes in the block, the block so changed, and what is claimed of an arrival's and an exit's change.
 -- Assumes nothing.
 use mathlib.Core.Path.{_≡_}
-use mathlib.Core.Bool.{Bool, true, false, not}
+use mathlib.Core.Bool.{Bool, true, false, not, cond}
 use mathlib.Core.List.{List, [], _∷_}
 use Prim.Native.Nat.{ℕ}
-use lib.Dec.{eqb}
+use lib.Dec.{eqb, ltb}
 use lib.ListN.{length, getD, set}
 use Rattle.folds.specs.Folds.{first, every}
 use Rattle.sets.specs.Sets.{put, part}
 use Rattle.block.specs.Tables.{mostWarps, barrierCount, freshWarp, idle, warpAt, barrierAt, isIdle, liveOf}
-use Rattle.barrier_row.specs.Rows.{resultOf}
+use Rattle.barrier_row.specs.Rows.{arrivedRow, completes, resultOf}
 use Rattle.block.specs.declared.Status.{Status}
-use Rattle.block.specs.declared.Status.the-variants.{Ready}
+use Rattle.block.specs.declared.Status.the-variants.{Ready, Waiting, Exited}
 use Rattle.block.specs.declared.Warp.{Warp}
 use Rattle.block.specs.declared.Barrier.{Barrier}
 use Rattle.block.specs.declared.Block.{Block}
@@ -20,7 +20,7 @@ use Rattle.block.specs.declared.Verdict.the-variants.{Refused, Accepted}
 use Rattle.block.specs.declared.Turn.{Turn}
 use Rattle.barriers.specs.declared.Change.{Change}
 use Rattle.barriers.specs.declared.Moved.{Moved}
-use Rattle.barriers.specs.Steps.{releasedWarps, arrival, exit}
+use Rattle.barriers.specs.Steps.{warpLine, arrivalLine, releasedWarps, arrival, exit}
 
 -- the warp rows with another status at w; past the last there is none to change
 abbrev pub withStatus : List Warp → ℕ → Status → List Warp
@@ -63,22 +63,25 @@ completing w s k r = record {
   change = record { warp = w; status = s; barrier = k; row = idle; freed = r };
 }
 
--- ---- an arrival, by what it sees of a block
+-- ---- an arrival, by the rows that it looks at
 
--- a block of 32 warp rows and sixteen barrier rows, of so many warps, of which those of alive have not exited, where x is the row of warp w and r the row of barrier k
-pub record Seen (b : Block) (n alive : ℕ) (x : Warp) (r : Barrier) (w k : ℕ) : Type 0 where
-  pub rows : length (b .rows) ≡ mostWarps
-  pub barriers : length (b .barriers) ≡ barrierCount
-  pub warps : b .warps ≡ n
-  pub live : liveOf b ≡ alive
-  pub warp : warpAt b w ≡ x
-  pub barrier : barrierAt b k ≡ r
+-- what an arrival of warp w at barrier k changes that no line refuses, where r is the barrier's row with it and those of alive have not exited
+abbrev pub arriving : ℕ → Barrier → ℕ → ℕ → Bool → Moved
+arriving alive r w k waits =
+    cond (completes alive r) (completing mostWarps Ready k r) (cond waits (goingOn w (Waiting k) k r) (goingOn mostWarps Ready k r))
 
--- of every such block, the change that m says is the arrival's
-abbrev pub Arrives : ℕ → ℕ → Warp → Barrier → ℕ → ℕ → Call → Moved → Type 0
-Arrives n alive x r w k c m = (b : Block) → Seen b n alive x r w k → made b m ≡ arrival b w k c
+-- what an arrival of warp w at barrier k changes in a block of so many warps, of which those of alive have not exited, where x is the row of the warp and r the row of the barrier
+unfoldable pub arrivalMoved : ℕ → ℕ → Warp → Barrier → ℕ → ℕ → Call → Moved
+arrivalMoved warps alive x r w k c =
+    cond (eqb (arrivalLine warps x r w k c) 0) (arriving alive (arrivedRow r w c) w k (c .waits)) (refusing (arrivalLine warps x r w k c))
 
--- ---- an exit, by what it sees of a block
+-- of every block of 32 warp rows and sixteen barrier rows, that change makes the arrival's turn
+abbrev pub ArrivalSeen : Type 0
+ArrivalSeen =
+    (b : Block) (w k : ℕ) (c : Call) → length (b .rows) ≡ mostWarps → length (b .barriers) ≡ barrierCount
+    → made b (arrivalMoved (b .warps) (liveOf b) (warpAt b w) (barrierAt b k) w k c) ≡ arrival b w k c
+
+-- ---- an exit, by the rows that it looks at
 
 -- an active all-thread row at which every warp of alive has arrived but w, which exits
 abbrev pub opensFor : Barrier → ℕ → ℕ → Bool
@@ -88,14 +91,17 @@ opensFor r alive w = every (not (isIdle (r .form)) ∷ eqb (r .threads) 0 ∷ pa
 abbrev pub firstOpening : List Barrier → ℕ → ℕ → ℕ
 firstOpening rs alive w = first barrierCount (λ k. opensFor (getD rs k idle) alive w)
 
--- a block of 32 warp rows and these barrier rows, of so many warps, of which those of alive have not exited, where x is the row of warp w
-pub record SeenAll (b : Block) (n alive : ℕ) (x : Warp) (rs : List Barrier) (w : ℕ) : Type 0 where
-  pub rows : length (b .rows) ≡ mostWarps
-  pub barriers : b .barriers ≡ rs
-  pub warps : b .warps ≡ n
-  pub live : liveOf b ≡ alive
-  pub warp : warpAt b w ≡ x
+-- what an exit of warp w changes that no line refuses, where k is the first row of rs that opens, and 16 if none does
+abbrev pub exiting : List Barrier → ℕ → ℕ → Moved
+exiting rs w k = cond (ltb k barrierCount) (completing w Exited k (getD rs k idle)) (goingOn w Exited barrierCount idle)
 
--- of every such block, the change that m says is the exit's
-abbrev pub Exits : ℕ → ℕ → Warp → List Barrier → ℕ → Moved → Type 0
-Exits n alive x rs w m = (b : Block) → SeenAll b n alive x rs w → made b m ≡ exit b w
+-- what an exit of warp w changes in a block of so many warps, of which those of alive have not exited, where x is the row of the warp and rs are the rows of the barriers
+unfoldable pub exitMoved : ℕ → ℕ → Warp → List Barrier → ℕ → Moved
+exitMoved warps alive x rs w =
+    cond (eqb (warpLine warps x w) 0) (exiting rs w (firstOpening rs alive w)) (refusing (warpLine warps x w))
+
+-- of every block of 32 warp rows and sixteen barrier rows, that change makes the exit's turn
+abbrev pub ExitSeen : Type 0
+ExitSeen =
+    (b : Block) (w : ℕ) → length (b .rows) ≡ mostWarps → length (b .barriers) ≡ barrierCount
+    → made b (exitMoved (b .warps) (liveOf b) (warpAt b w) (b .barriers) w) ≡ exit b w

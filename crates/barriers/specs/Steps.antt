@@ -66,6 +66,20 @@ arrivalRefusal b w k c =
     ∷ []
     )
 
+-- the same of the rows of the warp and of the barrier, in a block of so many warps
+unfoldable pub arrivalLine : ℕ → Warp → Barrier → ℕ → ℕ → Call → ℕ
+arrivalLine warps x r w k c =
+    lowest (
+    (leb warps w, 4)
+    ∷ (not (isReady (x .status)), 5)
+    ∷ (noSuchBarrier k, 6)
+    ∷ (badCount warps (c .threads), 7)
+    ∷ (isIdle (c .form), 8)
+    ∷ (differs r c, 9)
+    ∷ (has (r .arrived) w, 10)
+    ∷ []
+    )
+
 -- the lowest of lines 7 to 10, of a call of warp w at a barrier of row r, in a block of so many warps
 unfoldable pub callRefusal : ℕ → Barrier → ℕ → Call → ℕ
 callRefusal warps r w c =

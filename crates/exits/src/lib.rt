@@ -5,7 +5,7 @@ use block::Barrier;
 use block::Status;
 use block::Warp;
 ghost use mathlib.Core.Path.{_≡_};
-ghost use Rattle.barriers.specs.Changes.{firstOpening, Exits};
+ghost use Rattle.barriers.specs.Changes.{firstOpening, exitMoved};
 
 // The barrier that completes when warp w exits, where those of alive have not exited before, and 16 if none does.
 fn opened(barriers: [Barrier; BARRIER_COUNT as usize], alive: u32, w: u8) -> u8
@@ -24,7 +24,7 @@ fn opened(barriers: [Barrier; BARRIER_COUNT as usize], alive: u32, w: u8) -> u8
     k
 }
 
-// Exit: what the exit of warp w changes in any block of so many warps, of which those of alive have not exited, where this is the row of the warp and these are the rows of the barriers.
+// Exit: what the exit of warp w changes in a block of so many warps, of which those of alive have not exited, where this is the row of the warp and these are the rows of the barriers.
 pub fn exit(
     warps: u8,
     alive: u32,
@@ -32,7 +32,7 @@ pub fn exit(
     barriers: [Barrier; BARRIER_COUNT as usize],
     w: u8,
 ) -> Moved
-    ensures { λ m. ⌜ Exits warps alive warp barriers w m ⌝ }
+    ensures { λ m. ⌜ m ≡ exitMoved warps alive warp barriers w ⌝ }
 {
     let n = barriers::warp_refusal(warps, warp, w);
     if n != 0 {

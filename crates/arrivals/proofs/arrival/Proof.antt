@@ -1,7 +1,6 @@
-use mathlib.Core.Path.{sym, ap, _∙_}
+use mathlib.Core.Path.{sym, _∙_}
 use borrow.Author.Needs.{needs}
-use Rattle.barriers.specs.Changes.{made}
-use Rattle.barriers.proofs.Changes.{seen-warp, seen-6, seen-call, seen-completes, seen-waits, seen-arrives}
+use Rattle.barriers.proofs.Changes.{arrival-no-warp, arrival-no-barrier, arrival-no-call, arrival-completes, arrival-waits, arrival-goes-on}
 use Rattle.arrivals.proofs.arrival.Statement.{statement}
 use Rattle.arrivals.proofs.arrival.Tie as tie
 
@@ -12,16 +11,15 @@ refuse-requires : tie.Need-refuse-requires
 refuse-requires c κs = search needs
 
 returns : tie.Need-returns
-returns c b see =
-    ap (made b) (c .refuse .ensures) ∙ seen-warp b _ _ _ _ _ _ _ see _ (c .before .before .warp-refusal .ensures) (c .before .if1 .taken)
+returns c = c .refuse .ensures ∙ arrival-no-warp _ _ _ _ _ _ _ _ (c .before .before .warp-refusal .ensures) (c .before .if1 .taken)
 
 refuse-requires-2 : tie.Need-refuse-requires-2
 refuse-requires-2 c κs = search needs
 
 returns-2 : tie.Need-returns-2
-returns-2 c b see =
+returns-2 c =
     let e = c .before .before in
-    ap (made b) (c .refuse2 .ensures) ∙ seen-6 b _ _ _ _ _ _ _ see _ (e .before .warp-refusal .ensures) (e .if1 .left) (c .before .if2 .taken)
+    c .refuse2 .ensures ∙ arrival-no-barrier _ _ _ _ _ _ _ _ (e .before .warp-refusal .ensures) (e .if1 .left) (c .before .if2 .taken)
 
 call-refusal-requires : tie.Need-call-refusal-requires
 call-refusal-requires c κs = search needs
@@ -30,11 +28,11 @@ refuse-requires-3 : tie.Need-refuse-requires-3
 refuse-requires-3 c κs = search needs
 
 returns-3 : tie.Need-returns-3
-returns-3 c b see =
+returns-3 c =
     let m = c .before .before in
     let e = m .before .before in
-    ap (made b) (c .refuse3 .ensures)
-    ∙ seen-call b _ _ _ _ _ _ _ see _ (e .before .warp-refusal .ensures) (e .if1 .left) (m .before .if2 .left) _ (m .call-refusal .ensures) (c .before .if3 .taken)
+    c .refuse3 .ensures
+    ∙ arrival-no-call _ _ _ _ _ _ _ _ (e .before .warp-refusal .ensures) (e .if1 .left) (m .before .if2 .left) _ (m .call-refusal .ensures) (c .before .if3 .taken)
 
 arrived-row-requires : tie.Need-arrived-row-requires
 arrived-row-requires c κs = search needs
@@ -49,27 +47,27 @@ complete-requires : tie.Need-complete-requires
 complete-requires c κs = search needs
 
 returns-4 : tie.Need-returns-4
-returns-4 c b see =
+returns-4 c =
     let t = c .before .before in
     let r = t .before in
     let m = r .before .before in
     let e = m .before .before in
-    ap (made b) (c .complete .ensures)
-    ∙ seen-completes b _ _ _ _ _ _ _ see _ (e .before .warp-refusal .ensures) (e .if1 .left) (m .before .if2 .left) _ (m .call-refusal .ensures) (r .before .if3 .left)
+    c .complete .ensures
+    ∙ arrival-completes _ _ _ _ _ _ _ _ (e .before .warp-refusal .ensures) (e .if1 .left) (m .before .if2 .left) _ (m .call-refusal .ensures) (r .before .if3 .left)
     _ (r .arrived-row .ensures) (sym (t .completes .ensures) ∙ c .before .if4 .taken)
 
 go-on-requires : tie.Need-go-on-requires
 go-on-requires c κs = search needs
 
 returns-5 : tie.Need-returns-5
-returns-5 c b see =
+returns-5 c =
     let f = c .before .before in
     let t = f .before in
     let r = t .before in
     let m = r .before .before in
     let e = m .before .before in
-    ap (made b) (c .go-on .ensures)
-    ∙ seen-waits b _ _ _ _ _ _ _ see _ (e .before .warp-refusal .ensures) (e .if1 .left) (m .before .if2 .left) _ (m .call-refusal .ensures) (r .before .if3 .left)
+    c .go-on .ensures
+    ∙ arrival-waits _ _ _ _ _ _ _ _ (e .before .warp-refusal .ensures) (e .if1 .left) (m .before .if2 .left) _ (m .call-refusal .ensures) (r .before .if3 .left)
     _ (r .arrived-row .ensures) (sym (t .completes .ensures) ∙ f .if4 .left) (c .before .if5 .taken)
 
 cast-go-on : tie.Need-cast-go-on
@@ -79,14 +77,14 @@ go-on-requires-2 : tie.Need-go-on-requires-2
 go-on-requires-2 c κs = search needs
 
 returns-6 : tie.Need-returns-6
-returns-6 c b see =
+returns-6 c =
     let f = c .before .before in
     let t = f .before in
     let r = t .before in
     let m = r .before .before in
     let e = m .before .before in
-    ap (made b) (c .go-on2 .ensures)
-    ∙ seen-arrives b _ _ _ _ _ _ _ see _ (e .before .warp-refusal .ensures) (e .if1 .left) (m .before .if2 .left) _ (m .call-refusal .ensures) (r .before .if3 .left)
+    c .go-on2 .ensures
+    ∙ arrival-goes-on _ _ _ _ _ _ _ _ (e .before .warp-refusal .ensures) (e .if1 .left) (m .before .if2 .left) _ (m .call-refusal .ensures) (r .before .if3 .left)
     _ (r .arrived-row .ensures) (sym (t .completes .ensures) ∙ f .if4 .left) (c .before .if5 .left)
 
 pub arrival-spec : {M : Type 1} → statement M

@@ -1,21 +1,21 @@
 -- `decisions::decide` meets its contract: unsound tables are refused first, and each kind's own chain is the lowest line of the table.
 -- Assumes nothing.
-use mathlib.Core.Path.{_≡_, refl, sym, ap, _∙_}
+use mathlib.Core.Path.{_≡_, sym, ap, _∙_}
 use mathlib.Core.Bool.{Bool, true, false, _&&_}
 use Prim.Native.Nat.{ℕ}
 use lib.ListN.{length-map}
 use borrow.Author.Tests.{not-true, not-false}
 use Rattle.folds.proofs.Folds.{and-left}
 use Rattle.block.specs.Tables.{barrierAt, soundBlock}
-use Rattle.block.specs.declared.Call.{Call}
-use Rattle.barriers.specs.Steps.{warpLine, warpRefusal, arrival}
+use Rattle.barriers.specs.Steps.{warpLine, warpRefusal}
+use Rattle.barriers.specs.Changes.{made, arrivalMoved, exitMoved}
 use Rattle.barriers.proofs.Steps.{row-line}
+use Rattle.barriers.proofs.Changes.{arrival-seen, exit-seen}
 use Rattle.block_laws.specs.Sound.{Shaped}
 use Rattle.soundness.specs.declared.Survey.{Survey}
 use Rattle.soundness.specs.Seen.{allSeen}
 use Rattle.soundness.proofs.Seen.{says-sound, sees-all}
 use Rattle.tables.specs.Tables.{View}
-use Rattle.tables.specs.Parts.{blockTaken}
 use Rattle.tables.specs.Effect.{taken}
 use Rattle.tables.proofs.Chains.{taken-unsound, taken-exit, taken-barrier, taken-object, taken-pending}
 use Rattle.decisions.specs.Decides.{leftOf, barrierOf}
@@ -123,13 +123,9 @@ returns-2 c =
     let s = e .before .before .before .before in
     let b = s .args .b in
     ap (leftOf b) (c .in-block .ensures)
-    ∙ left-moved b (s .args .row) (c .before .exit .result) _ (c .before .exit .ensures b (record {
-      rows = shape s .rows;
-      barriers = refl;
-      warps = sym (λ i. saw e i .warps);
-      live = sym (λ i. saw e i .live);
-      warp = sym (λ i. saw e i .warp);
-    }))
+    ∙ left-moved b (s .args .row) (c .before .exit .result) _
+    (ap (made b) (c .before .exit .ensures ∙ (λ i. exitMoved (saw e i .warps) (saw e i .live) (saw e i .warp) (b .barriers) (s .args .step .warp)))
+    ∙ exit-seen b (s .args .step .warp) (shape s .rows) (shape s .barriers))
     ∙ rw (o .enum-told .given .1) (sym (taken-exit (seen s true) (s .args .step .warp)))
     ∙ on-sound e
 
@@ -139,16 +135,13 @@ returns-3 c =
     let e = o .before .before .before .before in
     let s = e .before .before .before .before in
     let b = s .args .b in
+    let w = s .args .step .warp in
+    let k = o .op .given .0 .0 in
+    let named = (λ i. saw e i .barrier) ∙ ap (barrierAt b) (e .before .before .before .barrier-of .ensures ∙ ap barrierOf (o .op .given .1)) in
     ap (leftOf b) (c .in-block2 .ensures)
-    ∙ left-moved b (s .args .row) (c .before .arrival .result) _ (c .before .arrival .ensures b (record {
-      rows = shape s .rows;
-      barriers = shape s .barriers;
-      warps = sym (λ i. saw e i .warps);
-      live = sym (λ i. saw e i .live);
-      warp = sym (λ i. saw e i .warp);
-      barrier = sym ((λ i. saw e i .barrier) ∙ ap (barrierAt b) (e .before .before .before .barrier-of .ensures ∙ ap barrierOf (o .op .given .1)));
-    }))
-    ∙ ap (λ (x : Call). blockTaken (s .args .row) (arrival b (s .args .step .warp) (o .op .given .0 .0) x)) (c .before .before .call-of .ensures)
+    ∙ left-moved b (s .args .row) (c .before .arrival .result) _
+    (ap (made b) (c .before .arrival .ensures ∙ (λ i. arrivalMoved (saw e i .warps) (saw e i .live) (saw e i .warp) (named i) w k (c .before .before .call-of .ensures i)))
+    ∙ arrival-seen b w k _ (shape s .rows) (shape s .barriers))
     ∙ rw (o .op .given .1) (sym (taken-barrier (seen s true) (s .args .step .warp) _ _))
     ∙ on-sound e
 

@@ -1,27 +1,20 @@
-use mathlib.Core.Path.{_≡_, ap, _∙_}
-use lib.ListN.{length}
+use mathlib.Core.Path.{ap, _∙_}
 use borrow.Author.Needs.{needs}
 use Rattle.block.specs.declared.Barrier.{Barrier}
 use Rattle.block.specs.declared.Status.the-variants.{Exited}
-use Rattle.barriers.specs.Changes.{made, goingOn}
-use Rattle.barriers.proofs.Changes.{seen-no-exit, seen-exit-completes, seen-exit-alone}
+use Rattle.barriers.specs.Changes.{goingOn}
+use Rattle.barriers.proofs.Changes.{exit-no-warp, exit-completes, exit-alone}
 use Rattle.exits.proofs.exit.Statement.{statement}
 use Rattle.exits.proofs.exit.Tie as tie
 
 warp-refusal-requires : tie.Need-warp-refusal-requires
 warp-refusal-requires c κs = search needs
 
--- there are sixteen barrier rows
-sixteen : (c : tie.Start) → length (c .args .t4) ≡ 16
-sixteen c = c .good .1 .1 .1 .0 .1 .0 .1
-
 refuse-requires : tie.Need-refuse-requires
 refuse-requires c κs = search needs
 
 returns : tie.Need-returns
-returns c b see =
-    let n = c .before .before in
-    ap (made b) (c .refuse .ensures) ∙ seen-no-exit b _ _ _ _ _ see (sixteen (n .before)) _ (n .warp-refusal .ensures) (c .before .if1 .taken)
+returns c = c .refuse .ensures ∙ exit-no-warp _ _ _ _ _ _ (c .before .before .warp-refusal .ensures) (c .before .if1 .taken)
 
 opened-requires : tie.Need-opened-requires
 opened-requires c κs = search needs
@@ -42,11 +35,11 @@ complete-requires : tie.Need-complete-requires
 complete-requires c κs = search needs
 
 returns-2 : tie.Need-returns-2
-returns-2 c b see =
+returns-2 c =
     let o = c .before .before .before in
     let n = o .before .before in
-    ap (made b) (c .complete .ensures)
-    ∙ seen-exit-completes b _ _ _ _ _ see (sixteen (n .before)) _ (n .warp-refusal .ensures) (o .before .if1 .left) _ (o .opened .ensures) (c .before .before .if2 .taken)
+    c .complete .ensures
+    ∙ exit-completes _ _ _ _ _ _ (n .warp-refusal .ensures) (o .before .if1 .left) _ (o .opened .ensures) (c .before .before .if2 .taken)
 
 cast-go-on : tie.Need-cast-go-on
 cast-go-on c = search needs
@@ -58,11 +51,12 @@ go-on-requires : tie.Need-go-on-requires
 go-on-requires c κs = search needs
 
 returns-3 : tie.Need-returns-3
-returns-3 c b see =
+returns-3 c =
     let o = c .before .before .before in
     let n = o .before .before in
-    ap (made b) (c .go-on .ensures ∙ ap (λ (r : Barrier). goingOn (n .before .args .w) Exited 16 r) (c .before .idle-row .ensures))
-    ∙ seen-exit-alone b _ _ _ _ _ see (sixteen (n .before)) _ (n .warp-refusal .ensures) (o .before .if1 .left) _ (o .opened .ensures) (c .before .before .if2 .left)
+    c .go-on .ensures
+    ∙ ap (λ (r : Barrier). goingOn (n .before .args .w) Exited 16 r) (c .before .idle-row .ensures)
+    ∙ exit-alone _ _ _ _ _ _ (n .warp-refusal .ensures) (o .before .if1 .left) _ (o .opened .ensures) (c .before .before .if2 .left)
 
 pub exit-spec : {M : Type 1} → statement M
 exit-spec =
