@@ -23,51 +23,54 @@ fn named(name: &[u8], n: u64) {
     number(n);
 }
 
+// Two names, each with its number.
+fn both(first: &[u8], a: u64, second: &[u8], b: u64) {
+    named(first, a);
+    named(second, b);
+}
+
 fn show_barrier(k: u8, b: BarrierStep) {
     match b {
         BarrierStep::SyncAll => named(b" sync all ", k as u64),
-        BarrierStep::Sync(t) => {
-            named(b" sync ", k as u64);
-            named(b" of ", t as u64);
-        }
-        BarrierStep::Arrive(t) => {
-            named(b" arrive ", k as u64);
-            named(b" of ", t as u64);
-        }
+        BarrierStep::Sync(t) => both(b" sync ", k as u64, b" of ", t as u64),
+        BarrierStep::Arrive(t) => both(b" arrive ", k as u64, b" of ", t as u64),
         BarrierStep::RedAll { selector, mask } => {
             named(b" red all ", k as u64);
-            named(b" by ", selector as u64);
-            named(b" mask ", mask as u64);
+            both(b" by ", selector as u64, b" mask ", mask as u64);
         }
         BarrierStep::Red {
             selector,
             threads,
             mask,
         } => {
-            named(b" red ", k as u64);
-            named(b" by ", selector as u64);
-            named(b" of ", threads as u64);
-            named(b" mask ", mask as u64);
+            both(b" red ", k as u64, b" by ", selector as u64);
+            both(b" of ", threads as u64, b" mask ", mask as u64);
         }
     }
 }
 
-fn show_object(address: u16, o: ObjectStep) {
+fn show_arrival(o: ObjectStep) {
     match o {
-        ObjectStep::Init(n) => named(b" init ", n as u64),
-        ObjectStep::Inval => say(b" inval"),
         ObjectStep::Arrive(n) => named(b" arrive ", n as u64),
         ObjectStep::ArriveNoComplete(n) => named(b" arrive noComplete ", n as u64),
         ObjectStep::ArriveExpect(n) => named(b" arrive expect ", n as u64),
         ObjectStep::Drop(n) => named(b" drop ", n as u64),
         ObjectStep::DropNoComplete(n) => named(b" drop noComplete ", n as u64),
         ObjectStep::DropExpect(n) => named(b" drop expect ", n as u64),
+        _ => say(b" no arrival"),
+    }
+}
+
+fn show_object(o: ObjectStep) {
+    match o {
+        ObjectStep::Init(n) => named(b" init ", n as u64),
+        ObjectStep::Inval => say(b" inval"),
         ObjectStep::Expect(n) => named(b" expect ", n as u64),
         ObjectStep::Complete(n) => named(b" complete ", n as u64),
         ObjectStep::TestToken(t) => named(b" test token ", t),
         ObjectStep::TestParity(p) => named(b" test parity ", p as u64),
+        _ => show_arrival(o),
     }
-    named(b" at ", address as u64);
 }
 
 fn show(step: Step) {
@@ -76,7 +79,10 @@ fn show(step: Step) {
     match op {
         Op::Exit => say(b" exit"),
         Op::Barrier(k, b) => show_barrier(k, b),
-        Op::Object(address, o) => show_object(address, o),
+        Op::Object(address, o) => {
+            show_object(o);
+            named(b" at ", address as u64);
+        }
         Op::PendingCount(t) => named(b" pending ", t),
     }
 }
