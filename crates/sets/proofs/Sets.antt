@@ -4,7 +4,7 @@ use mathlib.Core.Path.{_≡_, refl, sym, ap, ap₂, _∙_, subst}
 use mathlib.Core.Bool.{Bool, true, false, _&&_, _||_, or-false, or-true}
 use mathlib.Core.Logic.{⊎-elim}
 use Prim.Native.Nat.{ℕ, zero, suc, _+_, _-_, _*_, _/_, _%_, _^_, _<_, _≤_, min}
-use native.Mathlib.Nat.{mod-lt, mod-one, mul-comm, mul-assoc, one-mul, add-comm, pow-suc, mul-mod-left, mod-eq-of-lt, div-eq-of-lt, not-suc-le-zero, le-of-suc-le-suc, eq-or-lt-of-le, lt-of-lt-of-le, le-antisymm, add-zero, add-suc, zero-mul}
+use native.Mathlib.Nat.{mod-lt, mod-one, mul-comm, mul-assoc, one-mul, add-comm, pow-suc, mul-mod-left, mod-eq-of-lt, div-eq-of-lt, not-suc-le-zero, le-of-suc-le-suc, eq-or-lt-of-le, lt-of-lt-of-le, add-zero, add-suc, zero-mul}
 use native.Mathlib.Numerals.{add-one, one-add}
 use native.Mathlib.Omega.{arith}
 use lib.Arith.{bin-ind, lt-of-le-ne, lt-one}
@@ -265,10 +265,6 @@ shifted false w h = shl-exact 1 w 32 (lit< tt) (omega arith)
 pub setOf-more : (p : ℕ → Bool) (w : ℕ) (b : Bool) → w < 32 → b ≡ p w → setOf w p + boolByte b * 2 ^ w % 2 ^ 32 ≡ setOf (w + 1) p
 unfolding setOf
 setOf-more p w b h e = rw (shifted b w h, add-one, e)
-
--- a loop that counts to n has looked at them all
-pub setOf-end : (p : ℕ → Bool) (n i : ℕ) → i ≤ n → n ≤ i → setOf i p ≡ setOf n p
-setOf-end p n i a b = rw (le-antisymm a b)
 
 -- where the test holds of no number from n on, none more is put in
 pub setOf-far : (p : ℕ → Bool) (n k : ℕ) → ((i : ℕ) → n ≤ i → p i ≡ false) → setOf n p ≡ setOf (n + k) p
