@@ -3,9 +3,15 @@ use block::BARRIER_COUNT;
 use block::Barrier;
 use block::MOST_WARPS;
 ghost use mathlib.Core.Path.{_≡_};
-ghost use mathlib.Core.Bool.{_&&_, Bool·beq};
+ghost use mathlib.Core.Bool.{Bool·beq};
 ghost use Rattle.sets.specs.Sets.{has};
-ghost use Rattle.agreement.specs.Agreement.{allSound, allAlike};
+ghost use Rattle.agreement.specs.Agreement.{agreed};
+
+// What the walk over the barrier rows answers: whether every row is sound and agrees with who waits there, and the row of one barrier, idle where there is no such.
+pub struct Agreed {
+    pub all: bool,
+    pub row: Barrier,
+}
 
 // Whether barrier row r and the warps that wait there agree about warp w: both sets have it or neither does.
 fn agree(r: Barrier, here: u32, w: u8) -> bool
@@ -14,31 +20,37 @@ fn agree(r: Barrier, here: u32, w: u8) -> bool
     sets::has(r.waiting, w) == sets::has(here, w)
 }
 
-// Whether every barrier row is sound and agrees about every warp with who waits there; the first disagreement ends the check.
+// Whether every barrier row is sound and agrees about every warp with who waits there, and the row of barrier named; the first disagreement ends the check. That row is read here, since another function that is given the rows costs a copy of them.
 pub fn rows_agree(
     n: u8,
     barriers: [Barrier; BARRIER_COUNT as usize],
     alive: u32,
     here: [u32; BARRIER_COUNT as usize],
-) -> bool
-    ensures { λ r. ⌜ r ≡ allSound n alive barriers && allAlike barriers here ⌝ }
+    named: u8,
+) -> Agreed
+    ensures { λ r. ⌜ r ≡ agreed n alive barriers here named ⌝ }
 {
-    let mut ok = true;
+    let row = if named < BARRIER_COUNT {
+        barriers[named as usize]
+    } else {
+        block::idle_row()
+    };
+    let mut all = true;
     let mut k: u8 = 0;
     'rows: while k < BARRIER_COUNT {
         let barrier = barriers[k as usize];
         if !row_soundness::row_sound(n, alive, barrier) {
-            return false;
+            return Agreed { all: false, row };
         }
         let mut w: u8 = 0;
         while w < MOST_WARPS {
-            ok = agree(barrier, here[k as usize], w);
-            if !ok {
+            all = agree(barrier, here[k as usize], w);
+            if !all {
                 break 'rows;
             }
             w += 1;
         }
         k += 1;
     }
-    ok
+    Agreed { all, row }
 }

@@ -78,6 +78,13 @@ pub fn outside(z: i64) -> bool
     (z < -(MOST as i64)) | ((MOST as i64) < z)
 }
 
+// The same of a row's own count, without making an i64 of it: the check of all rows asks this of each.
+fn row_outside(tx: i32) -> bool
+    ensures { λ r. ⌜ r ≡ outside tx ⌝ }
+{
+    (tx < -(MOST as i32)) | ((MOST as i32) < tx)
+}
+
 // Whether a live row is sound; every u32 is a phase.
 fn live_sound(o: Object) -> bool
     ensures { λ r. ⌜ r ≡ liveSound o ⌝ }
@@ -86,7 +93,7 @@ fn live_sound(o: Object) -> bool
     let phase = o.phase;
     ((1 <= expected) & (expected <= MOST))
         & (o.pending <= expected)
-        & !outside(o.tx as i64)
+        & !row_outside(o.tx)
         & ((phase != 0) | o.seen)
 }
 

@@ -8,7 +8,7 @@ use block::Warp;
 ghost use mathlib.Core.Path.{_≡_};
 ghost use mathlib.Core.Bool.{_&&_};
 ghost use lib.Dec.{eqb};
-ghost use Rattle.block.specs.Tables.{isReady, waitsPlaced, soundBlock};
+ghost use Rattle.block.specs.Tables.{isReady, soundBlock};
 ghost use Rattle.soundness.specs.Seen.{nothingSeen, surveyOf};
 
 // What a step sees of a block: whether its tables are sound and, where they are, how many warps it has, which of them have not exited, and the rows of the warp and of the barrier that the step names.
@@ -18,18 +18,6 @@ pub struct Survey {
     pub live: u32,
     pub warp: Warp,
     pub barrier: Barrier,
-}
-
-// Whether the warp, if it waits, waits at a barrier that there is.
-fn waits_placed(row: Warp) -> bool
-    ensures { λ r. ⌜ r ≡ waitsPlaced (row .status) ⌝ }
-{
-    let s = row.status;
-    match s {
-        Status::Ready => true,
-        Status::Waiting(at) => at < BARRIER_COUNT,
-        Status::Exited => true,
-    }
 }
 
 // Whether the warp is ready with result 0, as the rows past the number of warps must be.
@@ -54,7 +42,7 @@ fn unsound() -> Survey
     }
 }
 
-// What a step of warp own sees of the block, at barrier named: the rows past the number of warps, then the warps, who are gathered where they wait, and last the barriers. The two rows are read here, since a function that is given the block costs a copy of it.
+// What a step of warp own sees of the block, at barrier named: the rows past the number of warps, then the warps, who are gathered where they wait, and last the barriers. The rows of the warp and of the barrier are read on the way, since another function that is given the block costs a copy of it.
 pub fn survey_of(b: Block, own: u8, named: u8) -> Survey
     ensures { λ r. ⌜ r ≡ surveyOf b own named ⌝ }
 {
@@ -75,14 +63,14 @@ pub fn survey_of(b: Block, own: u8, named: u8) -> Survey
     let mut w: u8 = 0;
     while w < n {
         let row = b.rows[w as usize];
-        if !waits_placed(row) {
-            return unsound();
-        }
         alive += (block::is_live(n, w, row) as u32) << (w as u32);
         let s = row.status;
         match s {
             Status::Ready => {}
             Status::Waiting(at) => {
+                if BARRIER_COUNT <= at {
+                    return unsound();
+                }
                 here[at as usize] += 1 << (w as u32);
             }
             Status::Exited => {}
@@ -90,7 +78,8 @@ pub fn survey_of(b: Block, own: u8, named: u8) -> Survey
         w += 1;
     }
     let barriers = b.barriers;
-    if !agreement::rows_agree(n, barriers, alive, here) {
+    let rows = agreement::rows_agree(n, barriers, alive, here, named);
+    if !rows.all {
         return unsound();
     }
     let warp = if own < MOST_WARPS {
@@ -98,11 +87,7 @@ pub fn survey_of(b: Block, own: u8, named: u8) -> Survey
     } else {
         block::fresh_warp()
     };
-    let barrier = if named < BARRIER_COUNT {
-        b.barriers[named as usize]
-    } else {
-        block::idle_row()
-    };
+    let barrier = rows.row;
     Survey {
         sound: true,
         warps: n,

@@ -8,15 +8,13 @@ use lib.Dec.{leb, ltb}
 use lib.ListN.{length-map}
 use borrow.Author.Needs.{needs}
 use mir.Val.{boolByte}
-use borrow.Author.Tests.{not-true, not-false, leb-true, le-ltb, ltb-true}
+use borrow.Author.Tests.{not-true, not-false, leb-true, le-ltb, lt-ltb}
 use Rattle.folds.specs.Folds.{all}
 use Rattle.folds.proofs.Folds.{and-right, all-none, all-more, all-fails, every-fails}
 use Rattle.sets.specs.Sets.{setOf}
 use Rattle.sets.proofs.Sets.{setOf-more, setOf-fits, setOf-far}
-use Rattle.block.specs.Tables.{freshWarp, idle, warpAt, barrierAt, isExited, waitsPlaced, warpsCounted, liveOf, soundBlock}
-use Rattle.block.specs.declared.Barrier.{Barrier}
+use Rattle.block.specs.Tables.{freshWarp, warpAt, isExited, waitsPlaced, warpsCounted, liveOf, soundBlock}
 use Rattle.block.specs.declared.Block.{Block}
-use Rattle.soundness.specs.Seen.{surveyOf}
 use Rattle.block.proofs.Tables.{past}
 use Rattle.soundness.proofs.Seen.{not-sound, is-sound, seen}
 use Rattle.soundness.proofs.Warps.{FreshTo, own-row, spare-row, all-warps, fresh-more}
@@ -122,23 +120,6 @@ below c = let h = c .before in omega (arith, few (h .before .before .before), h 
 element-copy-out-row-2 : tie.Need-element-copy-out-row-2 Inv-loop μ-loop Inv-loop2 μ-loop2
 element-copy-out-row-2 c = below c
 
-waits-placed-requires : tie.Need-waits-placed-requires Inv-loop μ-loop Inv-loop2 μ-loop2
-waits-placed-requires c κs = search needs
-
-unsound-requires-3 : tie.Need-unsound-requires-3 Inv-loop μ-loop Inv-loop2 μ-loop2
-unsound-requires-3 c κs = search needs
-
-returns-3 : tie.Need-returns-3 Inv-loop μ-loop Inv-loop2 μ-loop2
-unfolding soundBlock
-returns-3 c =
-    let p = c .before .before in
-    let h = p .before .before .before in
-    let b = h .before .before .before .before .args .t1 in
-    let w = h .loop2 .w in
-    let l : w < b .warps = p .before .before .loop2-test .taken in
-    let fails = sym (p .waits-placed .ensures) ∙ not-true _ (c .before .if3 .taken) in
-    not-sound b (h .before .before .before .before .args .own) (h .before .before .before .before .args .named) (c .unsound3 .ensures) (every-fails _ 1 (all-fails _ 32 w (omega (arith, l, few (h .before .before .before))) (sym (own-row (b .warps) w (warpAt b w) l) ∙ fails)))
-
 is-live-requires : tie.Need-is-live-requires Inv-loop μ-loop Inv-loop2 μ-loop2
 is-live-requires c κs = search needs
 
@@ -149,18 +130,18 @@ cast-alive-2 : tie.Need-cast-alive-2 Inv-loop μ-loop Inv-loop2 μ-loop2
 cast-alive-2 c = search needs
 
 shl-alive : tie.Need-shl-alive Inv-loop μ-loop Inv-loop2 μ-loop2
-shl-alive c = below (c .before .before .before .before)
+shl-alive c = below (c .before .before)
 
 -- the live ones with one warp more
 live-more : (c : tie.After-is-live Inv-loop μ-loop Inv-loop2 μ-loop2)
-    → let h = c .before .before .before .before .before in h .loop2 .alive + boolByte (c .is-live .result) * 2 ^ h .loop2 .w % 2 ^ 32 ≡ setOf (h .loop2 .w + 1) (lives (h .before .before .before .before .args .t1))
+    → let h = c .before .before .before in h .loop2 .alive + boolByte (c .is-live .result) * 2 ^ h .loop2 .w % 2 ^ 32 ≡ setOf (h .loop2 .w + 1) (lives (h .before .before .before .before .args .t1))
 live-more c =
-    let h = c .before .before .before .before .before in
-    rw (h .loop2 .inv .2) (setOf-more _ (h .loop2 .w) _ (below (c .before .before .before .before)) (c .is-live .ensures))
+    let h = c .before .before .before in
+    rw (h .loop2 .inv .2) (setOf-more _ (h .loop2 .w) _ (below (c .before .before)) (c .is-live .ensures))
 
 add-alive : tie.Need-add-alive Inv-loop μ-loop Inv-loop2 μ-loop2
 add-alive c =
-    let l = below (c .before .before .before .before) in
+    let l = below (c .before .before) in
     record { fits = rw (live-more c) (setOf-fits _ _ (omega (arith, l))) }
 
 enum-told : tie.Need-enum-told Inv-loop μ-loop Inv-loop2 μ-loop2
@@ -169,38 +150,52 @@ enum-told c = search needs
 enum-known-s : tie.Need-enum-known-s Inv-loop μ-loop Inv-loop2 μ-loop2
 enum-known-s c = search needs
 
+unsound-requires-3 : tie.Need-unsound-requires-3 Inv-loop μ-loop Inv-loop2 μ-loop2
+unsound-requires-3 c κs = search needs
+
+returns-3 : tie.Need-returns-3 Inv-loop μ-loop Inv-loop2 μ-loop2
+unfolding soundBlock
+returns-3 c =
+    let x = c .before .before .before in
+    let p = x .before .before .before .before in
+    let h = p .before in
+    let a = h .before .before .before .before .args in
+    let b = a .t1 in
+    let w = h .loop2 .w in
+    let l : w < b .warps = p .loop2-test .taken in
+    let fails : waitsPlaced (warpAt b w .status) ≡ false = rw (x .s .given .1) (le-ltb _ 16 (c .before .if3 .taken)) in
+    not-sound b (a .own) (a .named) (c .unsound3 .ensures) (every-fails _ 1 (all-fails _ 32 w (omega (arith, l, few (h .before .before .before))) (sym (own-row (b .warps) w (warpAt b w) l) ∙ fails)))
+
 -- a warp that waits does so at a barrier that there is
-placed : (c : tie.After-s Inv-loop μ-loop Inv-loop2 μ-loop2) → c .s .given .0 .0 < 16
-placed c =
-    let p = c .before .before .before in
-    ltb-true (c .s .given .0 .0) 16 (rw (c .s .given .1) at (sym (p .before .waits-placed .ensures) ∙ not-false _ (p .if3 .left)))
+placed : (c : tie.Else3 Inv-loop μ-loop Inv-loop2 μ-loop2) → c .before .before .s .given .0 .0 < 16
+placed c = c .if3 .left
 
 cast-here : tie.Need-cast-here Inv-loop μ-loop Inv-loop2 μ-loop2
 cast-here c = search needs
 
 shl-here : tie.Need-shl-here Inv-loop μ-loop Inv-loop2 μ-loop2
-shl-here c = below (c .before .before .before .before .before .before .before)
+shl-here c = below (c .before .before .before .before .before .before)
 
 cast-here-2 : tie.Need-cast-here-2 Inv-loop μ-loop Inv-loop2 μ-loop2
-cast-here-2 c = omega (arith, placed (c .before))
+cast-here-2 c = omega (arith, placed c)
 
 mul-here : tie.Need-mul-here Inv-loop μ-loop Inv-loop2 μ-loop2
-mul-here c = omega (arith, placed (c .before))
+mul-here c = omega (arith, placed c)
 
 array-read-here : tie.Need-array-read-here Inv-loop μ-loop Inv-loop2 μ-loop2
-array-read-here c = omega (arith, placed (c .before))
+array-read-here c = omega (arith, placed c)
 
 add-here : tie.Need-add-here Inv-loop μ-loop Inv-loop2 μ-loop2
 add-here c =
-    let p = c .before .before .before .before .before .before .before in
+    let p = c .before .before .before .before .before .before in
     let h = p .before in
     let b = h .before .before .before .before .args .t1 in
     let l = below p in
-    let e = waits-here b (h .loop2 .w) (h .loop2 .here) (h .loop2 .inv .3) _ (c .before .s .given .1) l (placed (c .before)) in
+    let e = waits-here b (h .loop2 .w) (h .loop2 .here) (h .loop2 .inv .3) _ (c .before .before .s .given .1) l (placed c) in
     record { fits = rw e (setOf-fits _ _ (omega (arith, l))) }
 
 array-write-here : tie.Need-array-write-here Inv-loop μ-loop Inv-loop2 μ-loop2
-array-write-here c = omega (arith, placed (c .before))
+array-write-here c = omega (arith, placed c)
 
 enum-told-2 : tie.Need-enum-told-2 Inv-loop μ-loop Inv-loop2 μ-loop2
 enum-told-2 c = search needs
@@ -213,9 +208,9 @@ loop2-less c = omega arith
 
 -- one warp more is gathered
 gathers : (c : tie.At-match-came Inv-loop μ-loop Inv-loop2 μ-loop2)
-    → let h = c .before .before .before .before .before .before in Gathered (h .loop2 .w + 1) (c .match .here) (h .before .before .before .before .args .t1)
+    → let h = c .before .before .before .before in Gathered (h .loop2 .w + 1) (c .match .here) (h .before .before .before .before .args .t1)
 gathers c =
-    let p = c .before .before .before .before .before in
+    let p = c .before .before .before in
     let h = p .before in
     let b = h .before .before .before .before .args .t1 in
     let w = h .loop2 .w in
@@ -224,21 +219,23 @@ gathers c =
     ⊎-elim
     (λ a. rw (a .2) (gathered-kept b w here so (λ k. rw (a .1 .given .1))))
     (⊎-elim
-    (λ a.
-    let l = placed (record { before = record { before = c .before; match = a .0 }; s = a .1 }) in
-    rw (a .3) (gathered-more b w here so _ (a .1 .given .1) (below p) l))
+    (λ a. rw (a .4) (gathered-more b w here so _ (a .1 .given .1) (below p) (a .3 .left)))
     (λ a. rw (a .2) (gathered-kept b w here so (λ k. rw (a .1 .given .1)))))
+    (c .match .came)
+
+-- and if it waits, then at a barrier that there is
+waits-placed : (c : tie.At-match-came Inv-loop μ-loop Inv-loop2 μ-loop2)
+    → let h = c .before .before .before .before in waitsPlaced (warpAt (h .before .before .before .before .args .t1) (h .loop2 .w) .status) ≡ true
+waits-placed c =
+    ⊎-elim
+    (λ a. rw (a .1 .given .1))
+    (⊎-elim (λ a. rw (a .1 .given .1) (lt-ltb _ 16 (a .3 .left))) (λ a. rw (a .1 .given .1)))
     (c .match .came)
 
 loop2-again : tie.Need-loop2-again Inv-loop μ-loop Inv-loop2 μ-loop2
 loop2-again c =
-    let p = c .before .before in
-    let h = p .before .before .before .before in (
-      omega arith,
-      all-more _ (h .loop2 .w) (h .loop2 .inv .1) (sym (p .before .waits-placed .ensures) ∙ not-false _ (p .if3 .left)),
-      live-more (c .before),
-      gathers c,
-    )
+    let h = c .before .before .before .before in
+    (omega arith, all-more _ (h .loop2 .w) (h .loop2 .inv .1) (waits-placed c), live-more (c .before), gathers c)
 
 -- all rows past the number of warps are fresh
 all-spare : (c : tie.After-loop Inv-loop μ-loop Inv-loop2 μ-loop2) → FreshTo (c .before .before .before .args .t1) 32
@@ -262,12 +259,12 @@ alive p =
     h .loop2 .inv .2 ∙ subst (λ (m : ℕ). setOf m (lives b) ≡ liveOf b) (sym (at-end p)) (live-all b (few (h .before .before .before)))
 
 -- the block is sound exactly when the rows agree
-agrees : (c : tie.After-rows-agree Inv-loop μ-loop Inv-loop2 μ-loop2) → c .rows-agree .result ≡ soundBlock (start (c .before .before) .args .t1)
+agrees : (c : tie.After-rows-agree Inv-loop μ-loop Inv-loop2 μ-loop2) → c .rows-agree .result .all ≡ soundBlock (start (c .before .before) .args .t1)
 agrees c =
     let p = c .before .before in
     let h = p .before in
     let b = start p .args .t1 in
-    c .rows-agree .ensures
+    (λ i. c .rows-agree .ensures i .all)
     ∙ rows-decide
     b
     (h .loop2 .alive)
@@ -282,7 +279,7 @@ unsound-requires-4 c κs = search needs
 
 returns-4 : tie.Need-returns-4 Inv-loop μ-loop Inv-loop2 μ-loop2
 returns-4 c =
-    let g = c .before .before in
+    let g = c .before .before .before in
     let a = start (g .before .before) .args in
     not-sound (a .t1) (a .own) (a .named) (c .unsound4 .ensures) (sym (not-true _ (c .before .if4 .taken)) ∙ agrees g)
 
@@ -295,39 +292,19 @@ element-copy-out-warp c = search needs
 fresh-warp-requires : tie.Need-fresh-warp-requires Inv-loop μ-loop Inv-loop2 μ-loop2
 fresh-warp-requires c κs = search needs
 
-mul-barrier : tie.Need-mul-barrier Inv-loop μ-loop Inv-loop2 μ-loop2
-mul-barrier c = search needs
-
-element-copy-out-barrier : tie.Need-element-copy-out-barrier Inv-loop μ-loop Inv-loop2 μ-loop2
-element-copy-out-barrier c = search needs
-
-idle-row-requires : tie.Need-idle-row-requires Inv-loop μ-loop Inv-loop2 μ-loop2
-idle-row-requires c κs = search needs
-
 -- the row that was read is the warp's
-warp-is : (j : tie.Joined5 Inv-loop μ-loop Inv-loop2 μ-loop2) → let a = start (j .before .before .before .before) .args in j .if5 .warp ≡ warpAt (a .t1) (a .own)
+warp-is : (j : tie.Joined5 Inv-loop μ-loop Inv-loop2 μ-loop2) → let a = start (j .before .before .before .before .before) .args in j .if5 .warp ≡ warpAt (a .t1) (a .own)
 warp-is j =
-    let z = start (j .before .before .before .before) in
+    let z = start (j .before .before .before .before .before) in
     ⊎-elim (λ t. t .2) (λ t. t .2 ∙ t .1 .ensures ∙ past (z .args .t1 .rows) freshWarp 32 (z .args .own) (simp length-map at (z .good .0 .1 .1 .1 .0 .1 .0 .1)) (t .0 .left)) (j .if5 .came)
 
--- where all rows agree and the warp's row was read, a survey with the barrier's row says what there is to see
-sees : (j : tie.Joined5 Inv-loop μ-loop Inv-loop2 μ-loop2) (r : Barrier) → let a = start (j .before .before .before .before) .args in r ≡ barrierAt (a .t1) (a .named)
-    → record { sound = true; warps = a .t1 .warps; live = j .before .before .before .before .before .loop2 .alive; warp = j .if5 .warp; barrier = r } ≡ surveyOf (a .t1) (a .own) (a .named)
-sees j r e =
-    let g = j .before .before in
+returns-5 : tie.Need-returns-5 Inv-loop μ-loop Inv-loop2 μ-loop2
+returns-5 c =
+    let j = c .before in
+    let g = j .before .before .before in
     let p = g .before .before in
     let a = start p .args in
-    is-sound (a .t1) (a .own) (a .named) (seen (a .t1) (a .own) (a .named) (alive p) (warp-is j) e) (sym (not-false _ (j .before .if4 .left)) ∙ agrees g)
-
-returns-5 : tie.Need-returns-5 Inv-loop μ-loop Inv-loop2 μ-loop2
-returns-5 c = sees (c .before .before) _ refl
-
-returns-6 : tie.Need-returns-6 Inv-loop μ-loop Inv-loop2 μ-loop2
-returns-6 c =
-    let j = c .before .before in
-    let z = start (j .before .before .before .before) in
-    let many = simp length-map at (z .good .0 .1 .1 .1 .1 .0 .1 .0 .1) in
-    sees j _ (c .idle-row .ensures ∙ past (z .args .t1 .barriers) idle 16 (z .args .named) many (c .before .if6 .left))
+    is-sound (a .t1) (a .own) (a .named) (seen (a .t1) (a .own) (a .named) (alive p) (warp-is j) (λ i. g .rows-agree .ensures i .row)) (sym (not-false _ (j .before .if4 .left)) ∙ agrees g)
 
 pub survey-of-spec : {M : Type 1} → statement M
 survey-of-spec =
@@ -353,9 +330,6 @@ survey-of-spec =
     cast-row-2
     mul-row-2
     element-copy-out-row-2
-    waits-placed-requires
-    unsound-requires-3
-    returns-3
     is-live-requires
     cast-alive
     cast-alive-2
@@ -363,6 +337,8 @@ survey-of-spec =
     add-alive
     enum-told
     enum-known-s
+    unsound-requires-3
+    returns-3
     cast-here
     shl-here
     cast-here-2
@@ -380,8 +356,4 @@ survey-of-spec =
     mul-warp
     element-copy-out-warp
     fresh-warp-requires
-    mul-barrier
-    element-copy-out-barrier
-    idle-row-requires
-    returns-5
-    returns-6)
+    returns-5)
