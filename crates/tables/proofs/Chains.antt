@@ -25,9 +25,9 @@ use Rattle.barriers.specs.Steps as barriers
 use Rattle.calls.proofs.Calls.{selector-form}
 use Rattle.tables.specs.declared.Taken.{Taken}
 use Rattle.tables.specs.Tables.{View}
-use Rattle.tables.specs.Refusals.{callOf, actOf, selectorOf, refusal}
+use Rattle.tables.specs.Refusals.{callOf, actOf, selectorOf, refusal, offPlace}
 use Rattle.tables.specs.Effect.{effect, refused, taken}
-use Rattle.tables.specs.Parts.{blockTaken, answered, offPlace, ifReady, objectTaken, pendingTaken}
+use Rattle.tables.specs.Parts.{blockTaken, answered, ifReady, objectTaken, pendingTaken}
 
 -- ---- the chains
 

@@ -17,8 +17,8 @@ use Rattle.block.specs.declared.Block.{Block}
 use Rattle.block.specs.declared.Verdict.the-variants.{Accepted}
 use Rattle.barriers.specs.Steps.{noSuchWarp, notReady, warpRefusal}
 use Rattle.tables.specs.declared.Taken.{Taken}
-use Rattle.tables.specs.Refusals.{actOf}
-use Rattle.tables.specs.Parts.{leaves, answered, offPlace, ifReady, objectTaken, pendingTaken}
+use Rattle.tables.specs.Refusals.{actOf, offPlace}
+use Rattle.tables.specs.Parts.{leaves, answered, ifReady, objectTaken, pendingTaken}
 
 pub or-right : (a b : Bool) → a || b ≡ false → b ≡ false
 or-right true b e = cc

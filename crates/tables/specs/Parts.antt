@@ -1,8 +1,7 @@
 -- The parts of a step over a block and one object row: what the step's own functions promise each other.
 -- Assumes nothing.
-use mathlib.Core.Bool.{Bool, false, not, cond, _||_}
-use Prim.Native.Nat.{ℕ, _/_, _%_}
-use lib.Dec.{eqb, ltb}
+use mathlib.Core.Bool.{false, cond}
+use Prim.Native.Nat.{ℕ, _/_}
 use Rattle.steps.specs.declared.ObjectStep.{ObjectStep}
 use Rattle.object.specs.declared.Object.{Object}
 use Rattle.object.specs.declared.Answer.{Answer}
@@ -14,7 +13,7 @@ use Rattle.block.specs.declared.Turn.{Turn}
 use Rattle.block.specs.declared.Verdict.the-variants.{Refused, Accepted}
 use Rattle.barriers.specs.Steps.{noSuchWarp, notReady}
 use Rattle.tables.specs.declared.Taken.{Taken}
-use Rattle.tables.specs.Refusals.{actOf}
+use Rattle.tables.specs.Refusals.{actOf, offPlace}
 
 -- a refusal, which leaves the block and the row
 abbrev pub leaves : Block → Object → ℕ → Taken
@@ -28,10 +27,6 @@ blockTaken o t = record { verdict = t .verdict; block = t .block; object = o }
 abbrev pub answered : Block → Object → Answer → Taken
 answered b o (answer.Refused n) = leaves b o n
 answered b o (answer.Accepted next value done) = record { verdict = Accepted value done 0; block = b; object = next }
-
--- an address that is no multiple of 8, or above 504
-abbrev pub offPlace : ℕ → Bool
-offPlace a = not (eqb (a % 8) 0) || ltb 504 a
 
 -- lines 4 and 5, before the rest of a step of warp w
 abbrev pub ifReady : Block → Object → ℕ → Taken → Taken

@@ -106,9 +106,13 @@ clashes v s = ofBarrier (λ k c. barriers.clashes (v .block) k c) (s .op)
 abbrev pub alreadyArrived : View → Step → Bool
 alreadyArrived v s = ofBarrier (λ k c. barriers.alreadyArrived (v .block) k (s .warp)) (s .op)
 
+-- an address that is no multiple of 8, or above 504
+abbrev pub offPlace : ℕ → Bool
+offPlace a = not (eqb (a % 8) 0) || ltb 504 a
+
 -- 11: address no multiple of 8, or above 504
 abbrev pub badAddress : View → Step → Bool
-badAddress v s = ofObject (λ a x. not (eqb (a % 8) 0) || ltb 504 a) (s .op)
+badAddress v s = ofObject (λ a x. offPlace a) (s .op)
 
 -- 12: object not live (all but init)
 abbrev pub notLive : View → Step → Bool
