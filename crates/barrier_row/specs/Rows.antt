@@ -30,7 +30,7 @@ differs r c =
     not (isIdle (r .form))
     && (not (eqb (r .threads) (countOf (c .threads))) || not (eqb (formNumber (r .form)) (formNumber (c .form))))
 
--- the largest number of a row, at which a sum stays (in sound tables no sum reaches it)
+-- the largest number of a row or a tally, at which a sum stays (in sound tables no row's sum reaches it)
 abbrev pub largest : ℕ
 largest = 4294967295
 

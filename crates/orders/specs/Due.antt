@@ -108,7 +108,7 @@ someOf Inval = true
 someOf (Token t) = true
 someOf (Parity p) = true
 
--- such a step, or another kind
+-- a step on an object that is at least 1 where it is one of these; false of an exit, a named-barrier step and a pending count
 abbrev pub atLeastOne : Step → Bool
 atLeastOne s = ofObject (λ b y. someOf y) (s .op)
 

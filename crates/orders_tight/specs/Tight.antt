@@ -84,7 +84,7 @@ step o = stepOn 0 16 o
 abbrev pub single : Tables
 single = tablesOf (row 1 1 (pos 0) 0 true)
 
--- one case or more for each condition
+-- one case or more for each condition but two, which follow from others
 pub record Tight : Type 0 where
   -- 0: another row isn't sound, dead with a pending arrival
   pub sound : Needed 0 (withRow single 24 (record { live = false; expected = 0; pending = 1; tx = pos 0; phase = 0; seen = false })) 16

@@ -143,7 +143,7 @@ broken =
     ∷ record { clause = 19; tables = tables 1 freshWarp freshWarp idle (live 1 1 (pos 0) 0 false) }
     ∷ []
 
--- every clause but that one holds, and the answer is 3, here to a step that nothing else refuses
+-- every clause but that one holds, and the answer to an exit of warp 0 is 3, the lowest also where 4 or 5 holds
 abbrev pub AllBroken : Type 0
 AllBroken =
     map {B = List Bool × Verdict} (λ b. (clauses (b .tables), verdict (b .tables) (exits 0))) broken

@@ -83,7 +83,7 @@ noSuchBarrier v s = ofBarrier (λ k c. barriers.noSuchBarrier k) (s .op)
 abbrev pub badThreads : View → Step → Bool
 badThreads v s = ofBarrier (λ k c. barriers.badThreads (v .block) (c .threads)) (s .op)
 
--- the selector of a red is bad, false of any other step
+-- whether the selector of a step is bad: a red has one, and of any other step it is false
 abbrev pub selectorOf : BarrierStep → Bool
 selectorOf barrier.SyncAll = false
 selectorOf (barrier.Sync t) = false

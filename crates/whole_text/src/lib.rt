@@ -6,7 +6,7 @@ ghost use lib.ListN.{length};
 ghost use Rattle.reading.specs.Reading.{readOf};
 ghost use Rattle.whole_text.specs.Whole.{LaysWhole};
 
-// The room for the text of any trace: text::room(65537). In less lay_whole could not keep its promise.
+// The room for the text of any trace: text::room(65537). Less might do, and only this much is proved to be enough.
 pub const TEXT_ROOM: usize = 1835120;
 
 // How many of the bytes that were read lie in the buffer: all of them where it is the one that was read into.
