@@ -14,12 +14,12 @@ using u64 = std::uint64_t;
 using i64 = std::int64_t;
 
 constexpr u32 max_warps = 32, max_barriers = 16, max_objects = 64;
-constexpr i64 count_limit = 1048575;
+constexpr u32 count_limit = 1048575;  // arrivals, and transactions both ways
 constexpr u32 last_phase = 0xffffffff;
 constexpr std::size_t trace_limit = 65536;
 constexpr std::size_t line_limit = 48;  // the longest line, with room to spare
 
-enum Status : u8 { ready, waiting, exited };
+enum Status : u8 { ready = 0, waiting = 1, exited = 2 };  // two of them with a bit of their own
 enum Form : u8 { idle, plain, popc, all_true, any_true };
 
 struct Warp {
@@ -53,7 +53,12 @@ struct Answer {
 
 constexpr u8 lengths[256] = {0, 2, 3, 5, 5, 8, 10, 8, 4, 8, 8, 8, 8, 8, 8, 8, 12, 5, 10, 8};
 
-u32 size(u32 set) { return static_cast<u32>(__builtin_popcount(set)); }
+// The compiler's own count of ones is a call where the processor may be any x86-64.
+u32 size(u32 set) {
+  set -= set >> 1 & 0x55555555;
+  set = (set & 0x33333333) + (set >> 2 & 0x33333333);
+  return ((set + (set >> 4)) & 0x0f0f0f0f) * 0x01010101 >> 24;
+}
 
 u32 first_warps(u32 count) { return count == 32 ? ~0u : (1u << count) - 1; }
 
@@ -66,66 +71,80 @@ T load(const u8 *at) {
   return value;
 }
 
-// The warps that have exited.
-u32 exited_warps(const Tables &t) {
-  u32 set = 0;
-  for (u32 w = 0; w < t.warps; ++w) set |= static_cast<u32>(t.warp[w].status == exited) << w;
-  return set;
+struct WarpSets {
+  u32 waiting, exited;
+};
+
+// Shifts by one, since a shift by a variable takes longer.
+WarpSets gathered(const Tables &t) {
+  u32 waits = 0, gone = 0;
+  for (u32 w = max_warps; w-- > 0;) {
+    waits = waits << 1 | (t.warp[w].status & 1);
+    gone = gone << 1 | t.warp[w].status >> 1;
+  }
+  return {waits, gone};
 }
 
-template <Walk walk>
-bool waiting_sound(const Tables &t) {
-  if (walk == Walk::rows) {
-    for (u32 b = 0; b < max_barriers; ++b)
-      for (u32 w = 0; w < max_warps; ++w) {
-        const bool waits = t.warp[w].status == waiting && t.warp[w].barrier == b;
-        if (waits != (t.barrier[b].waiting >> w & 1)) return false;
-      }
-    for (const Warp &w : t.warp)
-      if (w.status == waiting && w.barrier >= max_barriers) return false;
-    return true;
-  }
-  u32 at[max_barriers] = {};
-  for (u32 w = 0; w < max_warps; ++w) {
-    if (t.warp[w].status != waiting) continue;
-    if (t.warp[w].barrier >= max_barriers) return false;
-    at[t.warp[w].barrier] |= 1u << w;
-  }
+// Every barrier row against every warp row.
+bool rows_agree(const Tables &t) {
   for (u32 b = 0; b < max_barriers; ++b)
-    if (at[b] != t.barrier[b].waiting) return false;
+    for (u32 w = 0; w < max_warps; ++w) {
+      const bool waits = t.warp[w].status == waiting && t.warp[w].barrier == b;
+      if (waits != (t.barrier[b].waiting >> w & 1)) return false;
+    }
+  for (const Warp &w : t.warp)
+    if (w.status == waiting && w.barrier >= max_barriers) return false;
   return true;
 }
 
-bool barrier_sound(const Barrier &r, u32 warps, u32 left) {
+bool barrier_sound(const Barrier &r, u32 warps, u32 block, u32 left) {
   if (r.form == idle) return (r.threads | r.arrived | r.waiting | r.lanes) == 0;
-  if (r.arrived == 0 || (r.arrived & ~first_warps(warps)) || (r.waiting & ~r.arrived)) return false;
-  if (r.threads % 32 || r.threads > 32 * warps) return false;
-  const u32 arrivals = size(r.arrived);
-  if (r.threads && 32 * arrivals >= r.threads) return false;
-  if (!r.threads && ((left & ~r.arrived) == 0 || r.waiting != r.arrived)) return false;
+  if (!r.arrived || (r.arrived & ~block) || (r.waiting & ~r.arrived)) return false;
+  const bool all_wait = r.waiting == r.arrived;
+  if (!r.threads && !(all_wait && (left & ~r.arrived))) return false;
+  if (r.threads && (r.threads % 32 || r.threads > 32 * warps || 32 * size(r.arrived) >= r.threads))
+    return false;
   if (r.form == plain) return r.lanes == 0;
-  return r.waiting == r.arrived && r.lanes <= 32 * arrivals;
+  return all_wait && r.lanes <= 32 * size(r.arrived);
 }
 
-bool object_sound(const Object &o) {
-  if (!o.live)
-    return (o.expected | o.pending | static_cast<u32>(o.balance) | o.phase | o.seen) == 0;
-  return o.expected - 1 < count_limit && o.pending <= o.expected && o.balance >= -count_limit &&
-         o.balance <= count_limit && (o.phase || o.seen);
+// The tests of a row are joined without branches, and the answer waits for the last row.
+bool objects_sound(const Tables &t) {
+  u32 bad = 0;
+  for (const Object &o : t.object) {
+    const u32 balance = static_cast<u32>(o.balance);
+    if (!o.live) {
+      bad |= o.expected | o.pending | balance | o.phase | o.seen;
+      continue;
+    }
+    bad |= (o.expected - 1 >= count_limit) | (o.pending > o.expected) |
+           (balance + count_limit > 2 * count_limit) | ((o.phase | o.seen) == 0);
+  }
+  return bad == 0;
 }
 
-template <Walk walk>
-bool sound(const Tables &t) {
+// Whether the tables are sound; then `left` becomes the warps that have not exited. With masks,
+// the waiting sets together are those who wait, and no warp is in two, since its row names one.
+// A function of its own, so that its loops have all registers, and on a page of its own, since
+// an emulator is slow at a loop that lies across two.
+[[gnu::noinline, gnu::aligned(4096)]] bool sound(const Tables &t, Walk walk, u32 &left) {
   if (t.warps - 1 >= max_warps) return false;
-  for (u32 w = t.warps; w < max_warps; ++w)
-    if (t.warp[w].status != ready || t.warp[w].result) return false;
-  if (!waiting_sound<walk>(t)) return false;
-  const u32 left = first_warps(t.warps) & ~exited_warps(t);
-  for (const Barrier &row : t.barrier)
-    if (!barrier_sound(row, t.warps, left)) return false;
-  for (const Object &row : t.object)
-    if (!object_sound(row)) return false;
-  return true;
+  const u32 block = first_warps(t.warps);
+  const WarpSets sets = gathered(t);
+  u32 spare = (sets.waiting | sets.exited) & ~block;
+  for (u32 w = t.warps; w < max_warps; ++w) spare |= t.warp[w].result;
+  if (spare || (walk == Walk::rows && !rows_agree(t))) return false;
+  left = block & ~sets.exited;
+  u32 met = 0;
+  for (u32 b = 0; b < max_barriers; ++b) {
+    const Barrier &row = t.barrier[b];
+    if (!barrier_sound(row, t.warps, block, left)) return false;
+    met |= row.waiting;
+    if (walk == Walk::masks)
+      for (u32 set = row.waiting; set; set &= set - 1)
+        if (t.warp[__builtin_ctz(set)].barrier != b) return false;
+  }
+  return met == sets.waiting && objects_sound(t);
 }
 
 // Completes a barrier and releases who waits there.
@@ -145,15 +164,15 @@ Answer release(Tables &t, Barrier &row) {
   return {0, 1, released, value};
 }
 
-Answer exit_step(Tables &t, u32 warp) {
+Answer exit_step(Tables &t, u32 warp, u32 left) {
   t.warp[warp].status = exited;
-  const u32 left = first_warps(t.warps) & ~exited_warps(t);
+  left &= ~(1u << warp);
   for (Barrier &row : t.barrier)
     if (row.form != idle && !row.threads && (left & ~row.arrived) == 0) return release(t, row);
   return {};
 }
 
-Answer barrier_step(Tables &t, const u8 *step) {
+Answer barrier_step(Tables &t, const u8 *step, u32 left) {
   const u32 kind = step[0], warp = step[1], number = step[2];
   const bool counted = kind == 3 || kind == 4 || kind == 6, reduces = kind >= 5;
   const u32 threads = counted ? load<std::uint16_t>(step + (reduces ? 4 : 3)) : 0;
@@ -180,7 +199,6 @@ Answer barrier_step(Tables &t, const u8 *step) {
     t.warp[warp].status = waiting;
     t.warp[warp].barrier = static_cast<u8>(number);
   }
-  const u32 left = first_warps(t.warps) & ~exited_warps(t);
   const bool full = threads ? 32 * size(row.arrived) == threads : (left & ~row.arrived) == 0;
   return full ? release(t, row) : Answer{};
 }
@@ -196,8 +214,9 @@ Answer count_step(Object &row, u32 kind, u32 number, u32 operand) {
   if (arrives && (!count || count > row.pending || (drops && count >= row.expected)))
     return refused(14);
   i64 balance = row.balance;
+  const i64 limit = count_limit;
   if (moves) balance += kind == 0x0F ? -i64{operand} : i64{operand};
-  if (balance > count_limit || balance < -count_limit) return refused(15);
+  if (balance > limit || balance < -limit) return refused(15);
   if (arrives && !row.seen) return refused(16);
   const u32 pending = arrives ? row.pending - count : row.pending;
   const bool ends = kind != 0x0E && pending == 0 && balance == 0;
@@ -248,31 +267,44 @@ Answer object_step(Tables &t, const u8 *step) {
   }
 }
 
-template <Walk walk>
-Answer take(Tables &t, const u8 *step) {
+Answer take(Tables &t, const u8 *step, Walk walk) {
   const u32 kind = step[0], warp = step[1];
-  if (!sound<walk>(t)) return refused(3);
+  u32 left = 0;
+  if (!sound(t, walk, left)) return refused(3);
   if (warp >= t.warps) return refused(4);
   if (t.warp[warp].status != ready) return refused(5);
-  if (kind == 0x01) return exit_step(t, warp);
-  if (kind <= 0x06) return barrier_step(t, step);
+  if (kind == 0x01) return exit_step(t, warp, left);
+  if (kind <= 0x06) return barrier_step(t, step, left);
   if (kind != 0x12) return object_step(t, step);
   const u64 token = load<u64>(step + 2);
   return token >> 58 ? refused(19) : Answer{0, 0, 0, token & 0xfffff};
 }
 
-u8 *put(u8 *out, const char *text) {
-  while (*text) *out++ = static_cast<u8>(*text++);
-  return out;
+template <std::size_t size>
+u8 *put(u8 *out, const char (&text)[size]) {
+  std::memcpy(out, text, size - 1);
+  return out + size - 1;
 }
 
+constexpr char pairs[] =
+    "00010203040506070809101112131415161718192021222324"
+    "25262728293031323334353637383940414243444546474849"
+    "50515253545556575859606162636465666768697071727374"
+    "75767778798081828384858687888990919293949596979899";
+
+// Two digits at a time, the last ones first. No number here comes near 2^64.
 u8 *put(u8 *out, u64 number) {
-  u8 digits[20];
-  int count = 0;
-  do digits[count++] = static_cast<u8>('0' + number % 10);
-  while (number /= 10);
-  while (count) *out++ = digits[--count];
-  return out;
+  if (number < 10) {
+    *out = static_cast<u8>('0' + number);
+    return out + 1;
+  }
+  std::size_t count = 2;
+  for (u64 limit = 100; number >= limit; limit *= 10) ++count;
+  u8 *at = out + count;
+  for (; number >= 100; number /= 100) std::memcpy(at -= 2, pairs + number % 100 * 2, 2);
+  if (number >= 10) std::memcpy(at - 2, pairs + number * 2, 2);
+  else at[-1] = static_cast<u8>('0' + number);
+  return out + count;
 }
 
 u8 *put_refused(u8 *out, u64 number, u32 refusal) {
@@ -282,7 +314,8 @@ u8 *put_refused(u8 *out, u64 number, u32 refusal) {
 
 u8 *put_accepted(u8 *out, u64 number, const Answer &answer) {
   out = put(put(put(out, number), " ok "), answer.value);
-  out = put(out, answer.done ? " 1 " : " 0 ");
+  out = answer.done ? put(out, " 1 ") : put(out, " 0 ");
+  if (!answer.released) return put(out, "00000000\n");
   for (int shift = 28; shift >= 0; shift -= 4)
     *out++ = static_cast<u8>("0123456789abcdef"[answer.released >> shift & 15]);
   return put(out, "\n");
@@ -294,8 +327,7 @@ u8 *put_end(u8 *out, u64 accepted, u64 refusals) {
 }
 
 // The text of a trace, written to a place that has the room; answers its end.
-template <Walk walk>
-u8 *run(const u8 *trace, std::size_t len, u8 *out) {
+u8 *run(const u8 *trace, std::size_t len, Walk walk, u8 *out) {
   u32 at_once = 0;
   if (len > trace_limit) at_once = 21;
   else if (len == 0) at_once = 2;
@@ -309,7 +341,7 @@ u8 *run(const u8 *trace, std::size_t len, u8 *out) {
     const u64 number = accepted + refusals + 1;
     if (length == 0 || len - place < length)
       return put_end(put_refused(out, number, length ? 2 : 1), accepted, refusals + 1);
-    const Answer answer = take<walk>(t, trace + place);
+    const Answer answer = take(t, trace + place, walk);
     if (answer.refusal) {
       ++refusals;
       out = put_refused(out, number, answer.refusal);
@@ -331,15 +363,11 @@ std::size_t text_room(std::size_t trace_len) {
 
 std::size_t check(const u8 *trace, std::size_t trace_len, u8 *text, std::size_t text_len,
                   Walk walk) {
-  const auto into = [&](u8 *out) {
-    u8 *end = walk == Walk::rows ? run<Walk::rows>(trace, trace_len, out)
-                                 : run<Walk::masks>(trace, trace_len, out);
-    return static_cast<std::size_t>(end - out);
-  };
   const std::size_t room = text_room(trace_len);
-  if (text_len >= room) return into(text);
+  if (text_len >= room) return static_cast<std::size_t>(run(trace, trace_len, walk, text) - text);
   const std::unique_ptr<u8[]> own(new u8[room]);
-  const std::size_t length = into(own.get());
+  const u8 *end = run(trace, trace_len, walk, own.get());
+  const std::size_t length = static_cast<std::size_t>(end - own.get());
   if (length > text_len) return SIZE_MAX;
   std::memcpy(text, own.get(), length);
   return length;

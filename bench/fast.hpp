@@ -8,8 +8,9 @@
 namespace fast {
 
 // How the check of the tables holds waiting sets against warp rows: every
-// barrier row against every warp row, as document 01 words it, or the warp rows
-// gathered into masks first, which is the quickest way to the same answer.
+// barrier row against every warp row, as document 01 words it, or who waits
+// gathered into a mask and each waiting set visited member by member. Of the ways
+// tried that keep the tables plain structs, the second was the quickest.
 enum class Walk { rows, masks };
 
 // As glubotar_text_room and glubotar_check.
