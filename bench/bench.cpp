@@ -1,5 +1,6 @@
-// Times the checker and the quick engine on the same traces, and prints what bench/run puts together:
-// a line for each trace with its name, its steps and the nanoseconds a step of each engine; or peak memory.
+// Times the checker and the quick engine on the same traces, and prints what bench/run puts
+// together: a line for each trace with its name, its steps and the nanoseconds a step of each
+// engine; or peak memory.
 #include <sys/resource.h>
 #include <sys/wait.h>
 #include <unistd.h>
@@ -146,7 +147,8 @@ std::vector<double> times(const std::vector<Check> &checks, const Trace &trace, 
   return best;
 }
 
-// The peak memory in KiB of a process of its own that does one thing; 0 if it failed.
+// The peak memory in KiB of a process of its own that does one thing; where that breaks off, the
+// run ends.
 long peak(const std::function<void()> &thing) {
   const pid_t child = fork();
   if (child == 0) {
@@ -155,22 +157,28 @@ long peak(const std::function<void()> &thing) {
   }
   int status = 0;
   rusage usage{};
-  wait4(child, &status, 0, &usage);
-  return status == 0 ? usage.ru_maxrss : 0;
+  if (child < 0 || wait4(child, &status, 0, &usage) != child || status != 0) {
+    std::fprintf(stderr, "FAILED: the process whose memory is measured broke off\n");
+    std::exit(1);
+  }
+  return usage.ru_maxrss;
 }
 
 void print_peaks(const Trace &trace) {
   const long idle = peak([] {});
+  const auto above_idle = [&](const Check &check) {
+    return peak([&] { check(trace.bytes, Room(trace)); }) - idle;
+  };
+  const long own = above_idle(checker), other = above_idle(by_masks);
   std::printf("peak memory above an idle process's %ld KiB, trace of %zu bytes:\n", idle,
               trace.bytes.size());
-  const std::pair<const char *, Check> engines[] = {{"checker", checker}, {"C++", by_masks}};
-  for (const auto &[name, check] : engines)
-    std::printf("  %-8s %6ld KiB\n", name, peak([&] { check(trace.bytes, Room(trace)); }) - idle);
+  std::printf("  checker  %6ld KiB\n  C++      %6ld KiB\n", own, other);
 }
 
 }  // namespace
 
-// With the word memory as its argument it prints peak memory, else the times, the best of so many runs.
+// With the word memory as its argument it prints peak memory, else the times, the best of so many
+// runs.
 int main(int argc, char **argv) {
   const std::string_view word = argc == 2 ? argv[1] : "1";
   if (word == "memory") {
@@ -190,7 +198,7 @@ int main(int argc, char **argv) {
         return 1;
       }
       const std::vector<double> best = times(checks, trace, runs);
-      std::printf("%s %zu %.0f %.0f %.0f\n", name, trace.steps, best[0], best[1], best[2]);
+      std::printf("%s %zu %.1f %.1f %.1f\n", name, trace.steps, best[0], best[1], best[2]);
     }
   return 0;
 }
