@@ -1,7 +1,19 @@
 # Sourced at the root of the repository by scripts that link the checker's archive,
-# which is compiled for x86-64 whatever the machine. Sets $cxx, a C++ compiler for
-# it (installed where missing) with what it needs to link statically, and
-# $emulator, which runs such programs here and is empty where nothing is needed.
+# which is compiled for x86-64 whatever the machine. Sets $archive, which has to be
+# there and to be made from the sources as they are now; $cxx, a C++ compiler for it
+# (installed where missing) with what it needs to link statically; and $emulator,
+# which runs such programs here and is empty where nothing is needed.
+archive=target/staticlib/libarchive.a
+if [ ! -f "$archive" ]; then
+    echo "$archive is missing; rt staticlib archive makes it" >&2
+    exit 2
+fi
+newer=$(find crates/*/src crates.txt -newer "$archive" -print | head -n 1)
+if [ -n "$newer" ]; then
+    echo "$archive is older than $newer; rt staticlib archive makes it anew" >&2
+    exit 2
+fi
+
 if [ "$(uname -m)" = x86_64 ]; then
     cxx=g++ package=g++
 else
