@@ -11,6 +11,7 @@
 #include "engine.hpp"
 #include "generate.hpp"
 #include "subject.hpp"
+#include "watch.hpp"
 
 namespace {
 
@@ -24,8 +25,9 @@ constexpr const char *usage =
     "  --expected FILE..    traces NAME.trace with their text in NAME.expected\n"
     "  --truncations FILE.. every truncation of the given traces\n"
     "  --faults N           each seeded fault, to be noticed within N traces\n"
-    "A trace with two different texts goes to difference.trace, the texts to\n"
-    "difference.engine and difference.checker.\n";
+    "The first trace with two different texts goes to difference.trace, the texts to\n"
+    "difference.engine and difference.checker. So does an input that a crash or a\n"
+    "signal to end leaves unchecked.\n";
 
 std::string contents(const std::string &name) {
   std::ifstream file(name, std::ios::binary);
@@ -42,17 +44,29 @@ Bytes trace_in(const std::string &name) {
 }
 
 void keep(const std::string &name, const std::string &text) {
-  std::ofstream(name, std::ios::binary) << text;
+  std::ofstream file(name, std::ios::binary);
+  if (file << text << std::flush) return;
+  std::fprintf(stderr, "compare: cannot write %s\n", name.c_str());
+  std::exit(2);
 }
 
-// Compares the two texts of one trace, and keeps them where they differ.
+// What an earlier run kept.
+void forget() {
+  for (const char *name : {kept_trace, "difference.engine", "difference.checker"})
+    std::remove(name);
+}
+
+// Compares the two texts of one trace, and keeps the first ones that differ.
 bool same(const Bytes &trace, const std::string &engine, const std::string &checker,
           const std::string &what) {
+  static bool kept = false;
   if (engine == checker) return true;
-  keep("difference.trace", std::string(trace.begin(), trace.end()));
+  std::printf("FAILED: %s: the texts differ%s\n", what.c_str(), kept ? "" : ", see difference.*");
+  if (kept) return false;
+  kept = true;
+  keep(kept_trace, std::string(trace.begin(), trace.end()));
   keep("difference.engine", engine);
   keep("difference.checker", checker);
-  std::printf("FAILED: %s: the texts differ, see difference.*\n", what.c_str());
   return false;
 }
 
@@ -61,11 +75,13 @@ bool compare_traces(Number seed, Number count) {
   u64 digest = 0xcbf29ce484222325;  // FNV-1a: the same on every machine
   for (Number i = 0; i < count; ++i) {
     const Bytes trace = generated_trace(seed, i);
+    const std::string what = "trace " + std::to_string(i);
+    const Checked checked(trace, what);
     for (u8 byte : trace) digest = (digest ^ byte) * 0x100000001b3;
     const Report report = check(trace);
     coverage.note(report);
     const std::string text = i % 16 == 0 ? subject_text_with_limits(trace) : subject_text(trace);
-    if (!same(trace, report.text, text, "trace " + std::to_string(i))) return false;
+    if (!same(trace, report.text, text, what)) return false;
   }
   std::printf("%llu traces of seed %llu, digest %016llx: the same\n", count, seed,
               static_cast<Number>(digest));
@@ -75,8 +91,9 @@ bool compare_traces(Number seed, Number count) {
 bool compare_random(Number seed, Number count) {
   for (Number i = 0; i < count; ++i) {
     const Bytes input = random_input(seed, i);
-    if (!same(input, check(input).text, subject_text(input), "random input " + std::to_string(i)))
-      return false;
+    const std::string what = "random input " + std::to_string(i);
+    const Checked checked(input, what);
+    if (!same(input, check(input).text, subject_text(input), what)) return false;
   }
   std::printf("%llu random inputs of seed %llu: the same\n", count, seed);
   return true;
@@ -85,6 +102,7 @@ bool compare_random(Number seed, Number count) {
 bool compare_expected(const std::vector<std::string> &names) {
   for (const std::string &name : names) {
     const Bytes trace = trace_in(name);
+    const Checked checked(trace, name);
     const std::string expected = contents(name.substr(0, name.rfind(".trace")) + ".expected");
     if (!same(trace, check(trace).text, expected, name + " in the engine")) return false;
     if (!same(trace, expected, subject_text_with_limits(trace), name)) return false;
@@ -100,6 +118,7 @@ bool compare_truncations(const std::vector<std::string> &names) {
     for (;;) {
       ++count;
       const std::string what = name + " cut to " + std::to_string(trace.size());
+      const Checked checked(trace, what);
       if (!same(trace, check(trace).text, subject_text_with_limits(trace), what)) return false;
       if (trace.empty()) break;
       trace.pop_back();
@@ -115,6 +134,8 @@ bool find_faults(Number seed, Number count) {
   std::printf("faults, and the first trace that tells:\n");
   for (Number i = 0; i < count && !hidden.empty(); ++i) {
     const Bytes trace = generated_trace(seed, i);
+    const std::string what = "trace " + std::to_string(i);
+    const Checked checked(trace, what);
     const std::string text = subject_text(trace);
     std::vector<FaultName> left;
     for (const FaultName &f : hidden) {
@@ -149,6 +170,8 @@ int main(int argc, char **argv) {
   Number seed = 1;
   bool good = true;
   if (argc == 1) wrong_usage();
+  forget();
+  watch_signals();
   for (int i = 1; i < argc;) {
     const std::string part = argv[i++];
     if (part == "--expected" || part == "--truncations") {
