@@ -1,4 +1,4 @@
-// How often each kind was accepted and each refusal given.
+// How often each kind was accepted and refused with each number, and how full the tables were.
 #pragma once
 
 #include <array>
@@ -17,12 +17,20 @@ class Coverage {
   bool print() const;
 
  private:
-  std::array<u64, last_kind + 1> accepted_{};
-  std::array<u64, 22> refused_{};
-  u64 barriers_ = 0;
-  u64 by_exit_ = 0;
-  u64 phases_ = 0;
+  using Kinds = std::array<u64, last_kind + 1>;
+
+  bool print_accepted() const;
+  bool print_refused(int number) const;
+  bool print_refused() const;
+  bool print_crowd() const;
+
+  Kinds accepted_{};
+  Kinds completed_{};
+  std::array<Kinds, 22> refused_{};  // by number; kind 0 is where no step was known yet
+  u64 crowded_exits_ = 0;
   u64 yes_ = 0;
+  u64 most_active_ = 0;
+  u64 most_live_ = 0;
 };
 
 }  // namespace peer

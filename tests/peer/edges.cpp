@@ -47,8 +47,8 @@ Kind arrival_kind(Random &random) {
 Step threads_edge(Scene &scene) {
   Step step = mild(scene, counted_kind(scene.random));
   const u64 all = lanes * scene.block.tables().warps;
-  step.threads = scene.random.of(Numbers{0, 1, 31, 32, 33, all - 32, all - 1, all, all + 1,
-                                         all + 32, 1024, 1056, 65504, 65535});
+  step.threads = scene.random.of(Numbers{0, 1, 16, 31, 32, 33, 48, all - 32, all - 16, all - 1, all,
+                                         all + 1, all + 32, 1024, 1056, 65504, 65535});
   return step;
 }
 
@@ -134,28 +134,61 @@ Step balance_edge(Scene &scene) {
   return step;
 }
 
-// Lines 16 and 17: the whole pending count at once, unseen phases first.
+// Lines 16 and 17: the whole pending count at once, where a phase is unseen or somebody has
+// arrived. Where nobody has, as in every unseen phase, a drop of all is refused for its count, so
+// it leaves one.
 Step phase_edge(Scene &scene) {
-  Step step = mild(scene, arrival_kind(scene.random));
-  for (u64 address : scene.addresses)
-    if (scene.object(address).live && !scene.object(address).seen) step.address = address;
-  step.count = u64(scene.object(step.address).pending);
-  if (scene.random.chance(50)) step.transactions = 0;
+  Random &random = scene.random;
+  const Kind drop = random.of<Kind>({Kind::drop, Kind::drop_no_complete});
+  Step step = mild(scene, random.chance(50) ? arrival_kind(random) : drop);
+  Numbers addresses;
+  for (u64 address : scene.addresses) {
+    const Object &row = scene.object(address);
+    if (row.live && (!row.seen || row.pending < row.expected)) addresses.push_back(address);
+  }
+  if (!addresses.empty()) step.address = random.of(addresses);
+  const Object &row = scene.object(step.address);
+  step.count = u64(row.pending);
+  const bool whole = row.live && row.pending == row.expected;
+  if (drops(step.kind) && whole && random.chance(80)) --step.count;
+  if (random.chance(50)) step.transactions = 0;
   return step;
 }
 
-// Line 19: tokens of other phases, objects and sizes.
+// Line 19: tokens of other phases, objects and sizes, also by a single bit.
 Step token_edge(Scene &scene) {
   Random &random = scene.random;
-  Step step = mild(scene, random.chance(25) ? Kind::pending_count : Kind::test_token);
+  Step step = mild(scene, random.chance(35) ? Kind::pending_count : Kind::test_token);
   const u64 phase = u64(scene.object(step.address).phase);
-  const u64 other =
-      random.of(Numbers{phase, phase, phase + 1, phase - 1, phase - 2, u64(last_phase)});
-  const u64 number = random.chance(80) ? step.address / 8 : random.below(object_count);
+  const u64 other = random.of(Numbers{phase, phase, phase + 1, phase - 1, phase - 2,
+                                      phase ^ 1ull << random.below(32), u64(last_phase)});
+  u64 number = step.address / 8;
+  if (random.chance(20)) number = random.below(object_count);
+  else if (random.chance(20)) number ^= 1ull << random.below(6);
   step.token =
       (other & u64(last_phase)) * phase_unit + number * pending_unit + random.below(pending_unit);
   if (random.chance(20)) step.token = random.of(Numbers{token_end - 1, token_end, ~0ull, 0});
-  if (random.chance(10)) step.token += token_end;
+  if (random.chance(10)) step.token |= token_end << random.below(6);
+  return step;
+}
+
+// A step that would often be accepted, but for one bit of its body: a checker that overlooks a bit
+// of a field takes it.
+Step bit_edge(Scene &scene) {
+  Random &random = scene.random;
+  // tokens have most bits
+  Step step = mild(scene, random.chance(40) ? Kind::test_token : any_kind(random));
+  const std::vector<Part> &body = shape(u8(step.kind)).body;
+  u64 bits = 0;
+  for (const Part &part : body) bits += 8 * part.width;
+  u64 bit = random.below(bits);
+  for (const Part &part : body) {
+    if (bit < 8 * part.width) {
+      step.*part.field ^= 1ull << bit;
+      break;
+    }
+    bit -= 8 * part.width;
+  }
   return step;
 }
 
@@ -184,7 +217,7 @@ void worsen(Scene &scene, Step &step) {
 Step plain_edge(Scene &scene) {
   Random &random = scene.random;
   const u64 warps = scene.block.tables().warps;
-  switch (random.below(13)) {
+  switch (random.below(20)) {
     case 0: {
       Step step = mild(scene, any_kind(random));
       step.warp = random.of(Numbers{warps - 1, warps, warps + 1, 31, 32, 255});
@@ -217,8 +250,12 @@ Step plain_edge(Scene &scene) {
     case 8: return live_edge(scene);
     case 9: return count_edge(scene);
     case 10: return balance_edge(scene);
-    case 11: return phase_edge(scene);
-    default: return token_edge(scene);
+    case 11: return token_edge(scene);
+    // The others more often, since few get as far as their line or have the bit that matters.
+    case 12:
+    case 13:
+    case 14: return phase_edge(scene);
+    default: return bit_edge(scene);
   }
 }
 

@@ -67,6 +67,9 @@ struct Tables {
 // Whether the tables are sound, as document 01 says it.
 bool sound(const Tables &tables);
 
+u64 active_barriers(const Tables &tables);
+u64 live_objects(const Tables &tables);
+
 // The answer to a step; a refusal has nothing but its number.
 struct Answer {
   int refusal = 0;
@@ -141,18 +144,24 @@ class Block {
   std::array<bool, last_barrier + 1> complemented_{};
 };
 
-// A step that was read from a trace, and its answer.
+// A step that was read from a trace, its answer, and the barriers that were active when it came.
 struct Event {
   Step step;
   Answer answer;
+  u64 active;
 };
 
-// What a trace comes to: the printed text, the steps read, and the refusal
-// that stopped the reading, 0 where the trace was finished.
+// What a trace comes to: the printed text, the steps read, and the refusal that
+// stopped the reading, 0 where the trace was finished, with the kind of the step
+// that was cut, 0 where it was none. Also the most barriers active and the most
+// objects live when a step came.
 struct Report {
   std::string text;
   std::vector<Event> events;
   int stopped = 0;
+  u8 stopped_kind = 0;
+  u64 most_active = 0;
+  u64 most_live = 0;
 };
 
 Report check(const Bytes &trace, Fault fault = Fault::none);

@@ -7,17 +7,6 @@ namespace {
 
 using Numbers = std::vector<u64>;
 
-// Takes the step, keeps the token that it answers, and writes it down.
-void add(Scene &scene, const Step &step, Bytes &trace) {
-  const Answer answer = scene.block.take(step);
-  if (answer.refusal == 0 && arrives(step.kind)) {
-    Numbers &tokens = scene.tokens[step.address / 8];
-    tokens.push_back(answer.value);
-    if (tokens.size() > 4) tokens.erase(tokens.begin());
-  }
-  write(step, trace);
-}
-
 Scene scene_for(Random random, u64 warps) {
   Scene scene{random, Block(warps), {}, {}, 0};
   scene.barrier_share = scene.random.of(Numbers{10, 50, 50, 90});
@@ -26,15 +15,6 @@ Scene scene_for(Random random, u64 warps) {
     scene.addresses.push_back(8 *
                               scene.random.of(Numbers{0, 2, 63, scene.random.below(object_count)}));
   return scene;
-}
-
-// Adds steps; stops early once every warp waits or has exited.
-void add_steps(Scene &scene, u64 count, Bytes &trace) {
-  const u64 edges = scene.random.of(Numbers{0, 10, 20});
-  for (u64 i = 0; i < count; ++i) {
-    if (scene.warps(true).empty() && scene.random.chance(50)) return;
-    add(scene, scene.random.chance(edges) ? edge_step(scene) : likely_step(scene), trace);
-  }
 }
 
 // Damages the end of a trace: a cut step, a lone kind, an unknown kind.
@@ -71,16 +51,79 @@ Bytes long_trace(Random random, std::size_t length) {
   return trace;
 }
 
+// As many steps as a trace can have: exits, all but the first refused. The last byte is cut.
+Bytes trace_of_exits() {
+  Bytes trace{1};
+  while (trace.size() + 2 <= longest_trace) write(Step{}, trace);
+  trace.push_back(u8(Kind::exit));
+  return trace;
+}
+
+// The longest text that a trace can have: one warp that completes a barrier at each step.
+Bytes trace_of_syncs() {
+  Bytes trace{1};
+  Step step;
+  step.kind = Kind::bar_sync_all;
+  while (trace.size() + 3 <= longest_trace) write(step, trace);
+  return trace;
+}
+
+// One object through thousands of phases, so that tokens grow wide.
+Bytes trace_of_phases(Random random) {
+  Scene scene = scene_for(random, 1);
+  Bytes trace{1};
+  Step init, arrival, test;
+  init.kind = Kind::init;
+  arrival.kind = Kind::arrive;
+  init.address = arrival.address = test.address = scene.addresses[0];
+  init.count = arrival.count = 1;
+  add(scene, init, trace);
+  while (trace.size() + 20 <= longest_trace) {
+    add(scene, arrival, trace);
+    test.kind = scene.random.chance(20) ? Kind::test_token : Kind::test_parity;
+    test.token = scene.tokens[test.address / 8].back();
+    test.parity = u64(scene.object(test.address).phase + 1) % 2;
+    add(scene, as_written(test), trace);
+  }
+  return trace;
+}
+
 }  // namespace
+
+void add(Scene &scene, const Step &step, Bytes &trace) {
+  const Answer answer = scene.block.take(step);
+  if (answer.refusal == 0 && arrives(step.kind)) {
+    Numbers &tokens = scene.tokens[step.address / 8];
+    tokens.push_back(answer.value);
+    if (tokens.size() > 4) tokens.erase(tokens.begin());
+  }
+  write(step, trace);
+}
+
+void add_steps(Scene &scene, u64 count, Bytes &trace) {
+  const u64 edges = scene.random.of(Numbers{0, 15, 30});
+  for (u64 i = 0; i < count; ++i) {
+    if (scene.warps(true).empty() && scene.random.chance(50)) return;
+    add(scene, scene.random.chance(edges) ? edge_step(scene) : likely_step(scene), trace);
+  }
+}
 
 Bytes generated_trace(u64 seed, u64 number) {
   Random random(seed, number);
+  // The longest ones take most of the time, so they are few.
+  switch (number % 2000) {
+    case 494: return trace_of_exits();
+    case 495: return trace_of_phases(random);
+    case 496: return trace_of_syncs();
+    default: break;
+  }
   switch (number % 500) {
     case 497: return {};
     case 498: return long_trace(random, longest_trace);
     case 499: return long_trace(random, longest_trace + 1);
     default: break;
   }
+  if (number % 50 == 10) return crowded_trace(random);
   if (random.chance(2)) {
     Bytes refused{u8(random.of(Numbers{0, 33, 64, 255, 33 + random.below(223)}))};
     for (u64 i = random.below(8); i > 0; --i) refused.push_back(u8(random.next()));
@@ -93,7 +136,7 @@ Bytes generated_trace(u64 seed, u64 number) {
   Bytes trace{u8(warps)};
   Scene scene = scene_for(random, warps);
   add_steps(scene, steps, trace);
-  if (scene.random.chance(15)) damage(scene, trace);
+  if (scene.random.chance(25)) damage(scene, trace);
   return trace;
 }
 

@@ -32,6 +32,15 @@ struct Scene {
   std::vector<u64> warps(bool ready) const;
 };
 
+// Takes the step, keeps the token that it answers, and writes it down.
+void add(Scene &scene, const Step &step, Bytes &trace);
+
+// Adds steps; stops early once every warp waits or has exited.
+void add_steps(Scene &scene, u64 count, Bytes &trace);
+
+// A trace of many warps with full tables.
+Bytes crowded_trace(Random random);
+
 // A step that the block accepts, where one is found within a few tries.
 Step likely_step(Scene &scene);
 

@@ -86,14 +86,17 @@ void arrive_some(Random &random, Step &step, const Object &row) {
   step.kind =
       random.of<Kind>({Kind::arrive, Kind::arrive, Kind::arrive_no_complete, Kind::arrive_expect,
                        Kind::arrive_expect, Kind::drop, Kind::drop_expect, Kind::drop_no_complete});
+  // Few drops end a phase otherwise.
+  if (row.pending == 1 && row.expected > 1 && random.chance(30))
+    step.kind = random.of<Kind>({Kind::drop, Kind::drop_expect, Kind::drop_expect});
   i64 limit = row.pending;
   if (drops(step.kind)) limit = std::min(limit, row.expected - 1);
   limit = std::max<i64>(limit, 1);
   step.count = u64(limit);
   if (random.chance(60)) step.count = 1 + random.below(std::min<u64>(step.count, 3));
   step.transactions = some_transactions(random);
-  // What landed early is announced with the arrival.
-  if (row.balance < 0 && random.chance(60)) step.transactions = u64(-row.balance);
+  // What landed early is announced with the arrival, which can end the phase then.
+  if (row.balance <= 0 && random.chance(60)) step.transactions = u64(-row.balance);
 }
 
 // A test; most often of the phase before where nobody has seen it end.

@@ -3,6 +3,7 @@
 #pragma once
 
 #include <cstddef>
+#include <utility>
 #include <vector>
 
 #include "steps.hpp"
@@ -33,6 +34,14 @@ class Random {
   template <typename T>
   T of(const std::vector<T> &list) {
     return list[std::size_t(below(list.size()))];
+  }
+
+  // The list in another order.
+  template <typename T>
+  std::vector<T> shuffled(std::vector<T> list) {
+    for (std::size_t i = list.size(); i > 1; --i)
+      std::swap(list[i - 1], list[std::size_t(below(i))]);
+    return list;
   }
 
  private:

@@ -1,4 +1,4 @@
-// Sound tables, sentence by sentence as document 01 has them.
+// Sound tables, sentence by sentence as document 01 has them, and how full they are.
 #include <algorithm>
 
 #include "engine.hpp"
@@ -66,6 +66,16 @@ bool sound(const Tables &t) {
          std::all_of(t.barrier.begin(), t.barrier.end(),
                      [&t](const Barrier &row) { return barrier_sound(t, row); }) &&
          std::all_of(t.object.begin(), t.object.end(), object_sound);
+}
+
+u64 active_barriers(const Tables &tables) {
+  return u64(std::count_if(tables.barrier.begin(), tables.barrier.end(),
+                           [](const Barrier &row) { return row.form != Form::idle; }));
+}
+
+u64 live_objects(const Tables &tables) {
+  return u64(std::count_if(tables.object.begin(), tables.object.end(),
+                           [](const Object &row) { return row.live; }));
 }
 
 }  // namespace peer

@@ -1,4 +1,5 @@
 // The bytes of a trace, and the text that is printed for it.
+#include <algorithm>
 #include <cstdio>
 
 #include "engine.hpp"
@@ -113,14 +114,18 @@ Report check(const Bytes &trace, Fault fault) {
     Step step;
     report.stopped = read(trace, place, step, fault);
     if (report.stopped != 0) {
+      if (report.stopped == 2 && place < trace.size()) report.stopped_kind = trace[place];
       report.text += refused_line(number, report.stopped);
       refused += fault != Fault::stop_not_counted;
       if (report.stopped != 1 || fault != Fault::goes_on_after_unknown) break;
       ++place;
       continue;
     }
+    const u64 active = active_barriers(block.tables());
+    report.most_active = std::max(report.most_active, active);
+    report.most_live = std::max(report.most_live, live_objects(block.tables()));
     const Answer answer = block.take(step);
-    report.events.push_back({step, answer});
+    report.events.push_back({step, answer, active});
     if (answer.refusal == 0) {
       ++accepted;
       report.text += accepted_line(number, answer, fault);
