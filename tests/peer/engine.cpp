@@ -32,6 +32,7 @@ u64 Block::true_lanes(const Step &step) const {
   bool complemented = step.selector >= 4;
   if (is(Fault::popc_forgets_complement) && step.selector == 4) complemented = false;
   if (is(Fault::and_forgets_complement) && step.selector == 5) complemented = false;
+  if (is(Fault::or_forgets_complement) && step.selector == 6) complemented = false;
   u64 count = 0;
   for (u64 lane = 0; lane < lanes; ++lane) count += (step.mask >> lane & 1) != complemented;
   return count;
@@ -79,9 +80,11 @@ Answer Block::release(u64 barrier) {
 Answer Block::leave(const Step &step) {
   tables_.warp[step.warp].status = Status::exited;
   if (is(Fault::exit_leaves_waiting)) return {};
+  if (is(Fault::exit_lost_in_a_crowd) && active_barriers(tables_) >= 8) return {};
   for (u64 b = 0; b <= last_barrier; ++b) {
     Barrier &row = tables_.barrier[b];
     if (row.form == Form::idle || (is(Fault::exit_sees_barrier_0) && b != 0)) continue;
+    if (is(Fault::exit_ends_no_reduction) && row.form != Form::plain) continue;
     if (row.threads == 0 && complete(row)) {
       Answer answer = release(b);
       if (is(Fault::exit_released)) answer.released.insert(step.warp);
@@ -112,6 +115,7 @@ Answer Block::meet(const Step &step) {
   }
   if (is(Fault::lanes_of_issuer)) row.true_lanes = 0;
   if (reduces(step.kind)) row.true_lanes += true_lanes(step);
+  if (is(Fault::lanes_of_one_byte)) row.true_lanes %= 256;
   if (!complete(row)) return {};
   Answer answer = release(step.barrier);
   if (is(Fault::arrive_released)) answer.released.insert(step.warp);
@@ -192,8 +196,10 @@ Answer Block::move(const Step &step) {
   row = next;
   if (!ends(step, row)) return answer;
   row.phase += 1;
+  if (is(Fault::phase_of_one_byte)) row.phase %= 256;
   row.pending = is(Fault::restart_at_init) ? init_count_[step.address / 8] : row.expected;
-  row.seen = is(Fault::seen_not_cleared);
+  row.seen = is(Fault::seen_not_cleared) ||
+             (is(Fault::seen_after_drop_expect) && step.kind == Kind::drop_expect);
   answer.done = !is(Fault::phase_without_done);
   return answer;
 }

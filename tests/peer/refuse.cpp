@@ -75,7 +75,8 @@ bool Block::bad_threads(const Step &step) const {
   if (is(Fault::threads_by_warps_left))
     warps = std::count_if(tables_.warp.begin(), tables_.warp.begin() + tables_.warps,
                           [](const Warp &w) { return w.status != Status::exited; });
-  return step.threads == 0 || step.threads % lanes != 0 || step.threads > lanes * warps;
+  const u64 unit = is(Fault::threads_by_sixteen) ? 16 : lanes;
+  return step.threads == 0 || step.threads % unit != 0 || step.threads > lanes * warps;
 }
 
 bool Block::bad_selector(const Step &step) const {
@@ -93,6 +94,8 @@ bool Block::other_count_or_form(const Step &step) const {
   const auto same = [this](u64 threads) {
     return is(Fault::all_is_full_count) && threads == 0 ? lanes * tables_.warps : threads;
   };
+  const bool reduced = row.form != Form::plain && reduces(step.kind);
+  if (is(Fault::reductions_alike) && reduced) return row.threads != step.threads;
   return same(row.threads) != same(step.threads) || row.form != form_of(step);
 }
 
@@ -124,7 +127,8 @@ bool Block::bad_count(const Step &step) const {
   if (is(Fault::attached_not_counted) && attached_expect(step.kind)) return false;
   const Object &row = object(step);
   const i64 count = arrival_count(step);
-  if (count == 0 || count > row.pending) return true;
+  const bool any = is(Fault::drop_above_pending) && drops(step.kind);
+  if (count == 0 || (count > row.pending && !any)) return true;
   return drops(step.kind) && count >= row.expected + is(Fault::drop_to_nothing);
 }
 
@@ -134,12 +138,14 @@ bool Block::out_of_range(const Step &step) const {
   if (is(Fault::operand_judged) && i64(step.transactions) > count_limit) return true;
   const i64 limit = count_limit - is(Fault::balance_limit_short);
   const i64 balance = moved(step).balance;
-  return balance > limit || balance < (is(Fault::balance_unsigned) ? 0 : -limit);
+  const i64 lowest = -limit - is(Fault::balance_limit_low);
+  return balance > limit || balance < (is(Fault::balance_unsigned) ? 0 : lowest);
 }
 
 bool Block::phase_unseen(const Step &step) const {
   const bool judged =
       arrives(step.kind) || (is(Fault::completion_needs_seen) && step.kind == Kind::complete);
+  if (is(Fault::drop_before_seen) && drops(step.kind)) return false;
   return judged && !object(step).seen;
 }
 
@@ -156,13 +162,19 @@ bool Block::past_last_phase(const Step &step) const {
 
 bool Block::bad_token(const Step &step) const {
   const u64 end = token_end - is(Fault::token_limit_short);
-  if (step.kind == Kind::pending_count) return step.token >= end && !is(Fault::large_token_counted);
+  if (step.kind == Kind::pending_count) {
+    if (is(Fault::large_token_by_bit)) return (step.token & token_end) != 0;
+    return step.token >= end && !is(Fault::large_token_counted);
+  }
   if (step.kind != Kind::test_token) return false;
   const Object &row = object(step);
-  const u64 number = step.token / pending_unit % object_count;
-  const i64 phase = i64(step.token / phase_unit);
+  u64 number = step.token / pending_unit % object_count;
+  i64 phase = i64(step.token / phase_unit);
   const i64 pending = i64(step.token % pending_unit);
   if (step.token >= end) return true;
+  if (is(Fault::token_of_object_32_off) && number % 32 == step.address / 8 % 32)
+    number = step.address / 8;
+  if (is(Fault::token_phase_by_half)) phase %= 65536;
   if (number != step.address / 8 && !is(Fault::token_of_other_object)) return true;
   if (is(Fault::token_pending_judged) && (pending < 1 || pending > row.expected)) return true;
   if (is(Fault::token_of_older_phase) && phase < row.phase) return false;

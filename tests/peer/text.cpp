@@ -52,6 +52,21 @@ void write(const Step &step, Bytes &trace) {
 
 namespace {
 
+// What a fault in reading leaves of the fields.
+void lose_bits(Step &step, Fault fault) {
+  switch (fault) {
+    case Fault::warp_of_five_bits: step.warp %= 32; return;
+    case Fault::barrier_of_four_bits: step.barrier %= 16; return;
+    case Fault::selector_of_three_bits: step.selector %= 8; return;
+    case Fault::threads_of_one_byte: step.threads %= 1 << 8; return;
+    case Fault::address_of_nine_bits: step.address %= 512; return;
+    case Fault::count_of_three_bytes: step.count %= 1 << 24; return;
+    case Fault::transactions_of_three_bytes: step.transactions %= 1 << 24; return;
+    case Fault::token_of_four_bytes: step.token %= 1ull << 32; return;
+    default: return;
+  }
+}
+
 // Reads the step at the place and moves the place behind it, or answers 1 or 2.
 int read(const Bytes &trace, std::size_t &place, Step &step, Fault fault) {
   if (place == trace.size()) return 2;
@@ -63,8 +78,7 @@ int read(const Bytes &trace, std::size_t &place, Step &step, Fault fault) {
   step.kind = static_cast<Kind>(trace[place++]);
   for (const Part &part : parts)
     for (unsigned i = 0; i < part.width; ++i) step.*part.field |= u64(trace[place++]) << (8 * i);
-  if (fault == Fault::token_of_four_bytes) step.token &= 0xffffffff;
-  if (fault == Fault::threads_of_one_byte) step.threads &= 0xff;
+  lose_bits(step, fault);
   return 0;
 }
 
@@ -87,7 +101,9 @@ std::string accepted_line(u64 number, const Answer &answer, Fault fault) {
   for (u64 w : answer.released) mask |= 1u << (fault == Fault::released_reversed ? 31 - w : w);
   char digits[16];
   std::snprintf(digits, sizeof digits, fault == Fault::released_upper_case ? "%08X" : "%08x", mask);
-  return std::to_string(number) + " ok " + std::to_string(answer.value) + " " +
+  u64 value = answer.value;
+  if (fault == Fault::value_of_four_bytes) value %= 1ull << 32;
+  return std::to_string(number) + " ok " + std::to_string(value) + " " +
          (answer.done ? "1 " : "0 ") + digits + "\n";
 }
 
@@ -111,6 +127,7 @@ Report check(const Bytes &trace, Fault fault) {
   std::size_t place = 1;
   while (place < trace.size() || fault == Fault::end_refused) {
     ++number;
+    if (fault == Fault::number_of_fourteen_bits) number %= 16384;
     Step step;
     report.stopped = read(trace, place, step, fault);
     if (report.stopped != 0) {
