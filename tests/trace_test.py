@@ -5,6 +5,7 @@ import pathlib
 import random
 import subprocess
 import sys
+import tempfile
 import unittest
 
 ROOT = pathlib.Path(__file__).resolve().parent.parent
@@ -180,6 +181,50 @@ class Errors(unittest.TestCase):
         good = run("asm", data=b"warps 1\nw0: exit\n")
         self.assertEqual((good.returncode, good.stdout), (0, b"\1\1\0"))
         self.assertIn(b"warps 2", run("--help").stdout)
+
+
+class CommandLine(unittest.TestCase):
+    TEXT = b"warps 1\nw0: exit\nw0: exit\n"
+    NUMBERED = b"warps 1\nw0: exit  # 1\nw0: exit  # 2\n"
+    BYTES = b"\1\1\0\1\0"
+
+    def setUp(self):
+        folder = tempfile.TemporaryDirectory()
+        self.addCleanup(folder.cleanup)
+        self.text = pathlib.Path(folder.name, "kernel.txt")
+        self.text.write_bytes(self.TEXT)
+        self.trace = pathlib.Path(folder.name, "kernel.trace")
+        self.trace.write_bytes(self.BYTES)
+        self.out = pathlib.Path(folder.name, "out")
+
+    def good(self, *args, data=b""):
+        made = run(*args, data=data)
+        self.assertEqual((made.returncode, made.stderr), (0, b""), args)
+        return made.stdout
+
+    def test_options_in_any_place(self):
+        for args in (("show", "-n", self.trace), ("show", self.trace, "-n"),
+                     ("-n", "show", self.trace)):
+            self.assertEqual(self.good(*args), self.NUMBERED)
+        for args in (("asm", "-o", self.out, self.text), ("asm", self.text, "-o", self.out),
+                     ("-o", self.out, "asm", self.text)):
+            self.out.unlink(missing_ok=True)
+            self.assertEqual(self.good(*args), b"")
+            self.assertEqual(self.out.read_bytes(), self.BYTES)
+        self.assertEqual(self.good("show", "-n", "-o", self.out, self.trace), b"")
+        self.assertEqual(self.out.read_bytes(), self.NUMBERED)
+
+    def test_standard_input(self):
+        for args in (("asm",), ("asm", "-"), ("asm", "-o", "-"), ("asm", "-o", "-", "-")):
+            self.assertEqual(self.good(*args, data=self.TEXT), self.BYTES)
+        self.assertEqual(self.good("show", "-n", data=self.BYTES), self.NUMBERED)
+
+    def test_bad_use(self):
+        for args in (("show", "-x", self.trace), ("asm", self.text, self.text),
+                     ("asm", self.text, "-o"), ("-n",)):
+            made = run(*args)
+            self.assertEqual((made.returncode, made.stdout), (2, b""), args)
+            self.assertIn(b"trace", made.stderr)
 
 
 class Examples(unittest.TestCase):
