@@ -19,7 +19,12 @@ if [ "$(uname -m)" = x86_64 ]; then
 else
     cxx=x86_64-linux-gnu-g++ package=g++-x86-64-linux-gnu
 fi
-command -v "$cxx" >/dev/null || { apt-get update && apt-get install -y "$package"; } >&2
+if ! command -v "$cxx" >/dev/null; then
+    { apt-get update && apt-get install -y "$package"; } >&2 || {
+        echo "$cxx is needed, and its package $package can't be installed" >&2
+        exit 2
+    }
+fi
 if [ "$(uname -m)" != x86_64 ]; then
     # Debian's libm.a for this compiler is a script that names files by the paths
     # of an x86-64 machine; the library itself stands beside it.
