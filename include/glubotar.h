@@ -10,6 +10,12 @@
  *     fwrite(text, 1, len, stdout);
  *
  * Both functions keep nothing between calls and may be called from any thread.
+ *
+ * `rt staticlib archive` proves them and writes target/staticlib/libarchive.a, for
+ * x86-64 only. Link it by its path and not with -larchive, which is the name of a
+ * well-known library:
+ *
+ *     g++ -O2 main.cpp target/staticlib/libarchive.a
  */
 #ifndef GLUBOTAR_H
 #define GLUBOTAR_H
