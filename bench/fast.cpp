@@ -108,25 +108,23 @@ bool barrier_sound(const Barrier &r, u32 warps, u32 block, u32 left) {
   return all_wait && r.lanes <= 32 * size(r.arrived);
 }
 
-// The tests of a row are joined without branches, and the answer waits for the last row.
+bool object_sound(const Object &o) {
+  const u32 balance = static_cast<u32>(o.balance);
+  if (!o.live) return (o.expected | o.pending | balance | o.phase | o.seen) == 0;
+  return o.expected - 1 < count_limit && o.pending <= o.expected &&
+         balance + count_limit <= 2 * count_limit && (o.phase | o.seen);
+}
+
 bool objects_sound(const Tables &t) {
-  u32 bad = 0;
-  for (const Object &o : t.object) {
-    const u32 balance = static_cast<u32>(o.balance);
-    if (!o.live) {
-      bad |= o.expected | o.pending | balance | o.phase | o.seen;
-      continue;
-    }
-    bad |= (o.expected - 1 >= count_limit) | (o.pending > o.expected) |
-           (balance + count_limit > 2 * count_limit) | ((o.phase | o.seen) == 0);
-  }
-  return bad == 0;
+  for (const Object &o : t.object)
+    if (!object_sound(o)) return false;
+  return true;
 }
 
 // Whether the tables are sound; then `left` becomes the warps that have not exited. With masks,
 // the waiting sets together are those who wait, and no warp is in two, since its row names one.
 // A function of its own, so that its loops have all registers, and on a page of its own, since
-// an emulator is slow at a loop that lies across two.
+// an emulator takes twice the time for a loop that lies across two.
 [[gnu::noinline, gnu::aligned(4096)]] bool sound(const Tables &t, Walk walk, u32 &left) {
   if (t.warps - 1 >= max_warps) return false;
   const u32 block = first_warps(t.warps);
