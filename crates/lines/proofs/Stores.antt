@@ -1,12 +1,12 @@
 -- Stores one after the other, and what lies at the start of a list after them.
 -- Assumes nothing.
 use mathlib.Core.Path.{_≡_, refl, sym, ap, _∙_}
-use mathlib.Core.List.{List, [], _∷_, _++_}
+use mathlib.Core.List.{List, [], _∷_, _++_, append-assoc}
 use Prim.Native.Nat.{ℕ, suc, _+_, _≤_}
 use native.Mathlib.Omega.{arith}
-use native.Mathlib.Nat.{add-zero}
-use lib.ListN.{length, take, drop, set, length-append}
-use lib.Seq.{sets, sets-eq, length-sets, take-at}
+use native.Mathlib.Nat.{add-zero, zero-add}
+use lib.ListN.{length, take, drop, set, length-append, length-drop, take-append-drop}
+use lib.Seq.{sets, sets-eq, length-sets, take-at, length-take-le, drop-append-le, drop-drop}
 use Rattle.fields.specs.Num.{laid}
 use Rattle.fields.proofs.Num.{laid-fits}
 
@@ -49,3 +49,21 @@ next-laid {l} {w} {l′} {l″} {j} s x e fits f = next s x (e ∙ sym (laid-fit
 -- a number and what stands after it, from the start on
 pub numbered : {l l′ : List ℕ} {j : ℕ} (x y : List ℕ) → l′ ≡ sets l 0 (x ++ y) → j ≡ length x + length y → Stored l (x ++ y) l′ j
 numbered {l} x y e f = next (begin l) (x ++ y) e (omega (arith, length-append x y))
+
+-- bytes stored at the start of a part of a list are laid where the part starts
+pub part-laid : (l w : List ℕ) (a k : ℕ) → a + k ≤ length l → length w ≤ k → take a l ++ (sets (take k (drop a l)) 0 w ++ drop k (drop a l)) ≡ laid l a w
+part-laid l w a k h g =
+    let part = take k (drop a l) in
+    let rest = drop k (drop a l) in
+    let size : length part ≡ k = length-take-le k (drop a l) (rw (length-drop a l) (omega arith)) in
+    let inside : 0 + length w ≤ length part = omega (arith, size) in
+    let behind : drop (0 + length w) part ++ rest ≡ drop (a + length w) l =
+    sym (drop-append-le (0 + length w) part rest inside)
+    ∙ ap (drop (0 + length w)) (take-append-drop k (drop a l))
+    ∙ drop-drop (0 + length w) a l
+    ∙ ap (λ (n : ℕ). drop (a + n) l) (zero-add (length w)) in
+    ap (λ (m : List ℕ). take a l ++ (m ++ rest)) (sets-eq w part 0 inside)
+    ∙ ap (λ (m : List ℕ). take a l ++ m) (append-assoc w (drop (0 + length w) part) rest ∙ ap (λ (m : List ℕ). w ++ m) behind)
+    ∙ sym (append-assoc (take a l) w (drop (a + length w) l))
+    ∙ sym (sets-eq w l a (omega arith))
+    ∙ laid-fits l a w (omega arith)

@@ -88,14 +88,28 @@ fn spell_end(out: &mut [u8], accepted: u32, refused: u32) -> usize
     b + 1
 }
 
-// Lays the line of a step from at on, where it fits, and else nothing; answers its length.
-pub fn put_line(out: &mut [u8], at: usize, n: u64, verdict: Verdict) -> usize
+// The same as put_line, the line made apart and then laid where it fits.
+fn put_apart(out: &mut [u8], at: usize, n: u64, verdict: Verdict) -> usize
     ensures { λ r. ⌜ (r ≡ length (lineOf n verdict)) × (now (out .exit) ≡ laid (now (out .entry)) at (lineOf n verdict)) ⌝ }
 {
     let mut line = [0u8; MOST_LINE];
     let k = spell(&mut line, n, verdict);
     digits::put(&mut *out, at, &line[..k]);
     k
+}
+
+// Lays the line of a step from at on, where it fits, and else nothing; answers its length. Where any line fits it is laid at once.
+pub fn put_line(out: &mut [u8], at: usize, n: u64, verdict: Verdict) -> usize
+    ensures { λ r. ⌜ (r ≡ length (lineOf n verdict)) × (now (out .exit) ≡ laid (now (out .entry)) at (lineOf n verdict)) ⌝ }
+{
+    if out.len() < at {
+        return put_apart(&mut *out, at, n, verdict);
+    }
+    if out.len() - at < MOST_LINE {
+        return put_apart(&mut *out, at, n, verdict);
+    }
+    let end = at + MOST_LINE;
+    spell(&mut out[at..end], n, verdict)
 }
 
 // Lays the end line from at on, where it fits, and else nothing; answers its length.

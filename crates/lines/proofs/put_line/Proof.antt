@@ -1,62 +1,84 @@
--- `lines::put_line` meets its contract: the line is made apart, and laid where it fits.
+-- `lines::put_line` meets its contract: where any line fits it is made where it is to lie, and else apart.
 -- Assumes nothing.
-use mathlib.Core.Path.{_≡_, sym, ap, _∙_}
+use mathlib.Core.Path.{ap, _∙_}
+use mathlib.Core.List.{List, _++_}
+use Prim.Native.Nat.{ℕ, _+_, _-_}
 use native.Mathlib.Omega.{arith}
 use borrow.Author.Needs.{needs}
 use denote.Ref.{now}
-use lib.ListN.{length, take, replicate}
-use Rattle.fields.specs.Num.{laid}
-use Rattle.lines.specs.Lines.{mostLine, lineOf}
-use Rattle.lines.proofs.Stores.{take-sets}
+use lib.ListN.{take, drop}
+use Rattle.lines.specs.Lines.{lineOf}
+use Rattle.lines.proofs.Stores.{part-laid}
 use Rattle.lines.proofs.Lines.{line-most}
 use Rattle.lines.proofs.put_line.Statement.{statement}
 use Rattle.lines.proofs.put_line.Tie as tie
 
--- the line lies at the start of what was made
-made : (s : tie.After-spell)
-    → take (s .spell .result) (s .spell .last .0) ≡ lineOf (s .before .before .before .args .n) (s .before .before .before .args .verdict)
-made s =
-    let a = s .before .before .before .args in
-    take-sets (replicate mostLine 0) (s .spell .last .0) (lineOf (a .n) (a .verdict)) (s .spell .result) (s .spell .ensures .0)
-    (omega (arith, s .spell .ensures .0, line-most (a .n) (a .verdict))) (s .spell .ensures .1)
-
-slice-aggregate-spell : tie.Need-slice-aggregate-spell
-slice-aggregate-spell c = search needs
-
-spell-requires : tie.Need-spell-requires
-spell-requires c κs = search needs
-
-array-share-prefix-line : tie.Need-array-share-prefix-line
-array-share-prefix-line c =
-    let s = c .before .before in
-    let a = s .before .before .before .args in
-    omega (arith, s .spell .ensures .0, s .spell .kept .0, line-most (a .n) (a .verdict))
-
-slice-aggregate-put : tie.Need-slice-aggregate-put
-slice-aggregate-put c =
-    let s = c .before .before .before in
-    s .spell .ensures .0 ∙ ap length (sym (made s))
-
-put-requires : tie.Need-put-requires
-put-requires c κs = search needs
+put-apart-requires : tie.Need-put-apart-requires
+put-apart-requires c κs = search needs
 
 same-length : tie.Need-same-length
 same-length c = search needs
 
 returns : tie.Need-returns
-returns c =
-    let s = c .before .before .before .before .before .before in
-    let a = s .before .before .before .args in
-    (s .spell .ensures .0, c .before .before .put .ensures ∙ ap (laid (now (a .out)) (a .at)) (made s))
+returns c = search needs
+
+sub-if2 : tie.Need-sub-if2
+sub-if2 c = search needs
+
+put-apart-requires-2 : tie.Need-put-apart-requires-2
+put-apart-requires-2 c κs = search needs
+
+same-length-2 : tie.Need-same-length-2
+same-length-2 c = search needs
+
+returns-2 : tie.Need-returns-2
+returns-2 c = search needs
+
+add-end : tie.Need-add-end
+add-end c = search needs
+
+sub-spell : tie.Need-sub-spell
+sub-spell c = search needs
+
+part-spell-start : tie.Need-part-spell-start
+part-spell-start c = search needs
+
+part-spell-end : tie.Need-part-spell-end
+part-spell-end c = search needs
+
+spell-requires : tie.Need-spell-requires
+spell-requires c κs = search needs
+
+same-length-3 : tie.Need-same-length-3
+same-length-3 c = search needs
+
+returns-3 : tie.Need-returns-3
+returns-3 c =
+    let p = c .before .before in
+    let s = p .before .before .before .before .before in
+    let a = s .args in
+    let l = now (a .out) in
+    let k = a .at + 56 - a .at in (
+      p .spell .ensures .0,
+      ap (λ (m : List ℕ). take (a .at) l ++ (m ++ drop k (drop (a .at) l))) (p .spell .ensures .1)
+          ∙ part-laid l (lineOf (a .n) (a .verdict)) (a .at) k (omega arith) (omega (arith, line-most (a .n) (a .verdict))),
+    )
 
 pub put-line-spec : {M : Type 1} → statement M
 put-line-spec =
     tie.close
     (tie.spec
-    slice-aggregate-spell
-    spell-requires
-    array-share-prefix-line
-    slice-aggregate-put
-    put-requires
+    put-apart-requires
     same-length
-    returns)
+    returns
+    sub-if2
+    put-apart-requires-2
+    same-length-2
+    returns-2
+    add-end
+    sub-spell
+    part-spell-start
+    part-spell-end
+    spell-requires
+    same-length-3
+    returns-3)
