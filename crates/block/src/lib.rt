@@ -1,8 +1,6 @@
 // The block: its warps and its sixteen named barriers, by value, and what one row of a warp says.
 ghost use mathlib.Core.Path.{_≡_};
-ghost use mathlib.Core.Bool.{not, _&&_};
-ghost use lib.Dec.{ltb};
-ghost use Rattle.block.specs.Tables.{formNumber, isReady, isExited, freshWarp, idle, freshBlock};
+ghost use Rattle.block.specs.Tables.{formNumber, isReady, freshWarp, idle, freshBlock};
 
 // A block has at most 32 warps.
 pub const MOST_WARPS: u8 = 32;
@@ -138,23 +136,4 @@ pub fn is_ready(row: Warp) -> bool
         Status::Waiting(_) => false,
         Status::Exited => false,
     }
-}
-
-// Whether the warp has exited.
-fn is_exited(row: Warp) -> bool
-    ensures { λ r. ⌜ r ≡ isExited (row .status) ⌝ }
-{
-    let s = row.status;
-    match s {
-        Status::Ready => false,
-        Status::Waiting(_) => false,
-        Status::Exited => true,
-    }
-}
-
-// Whether warp w is one of a block of n and has not exited.
-pub fn is_live(n: u8, w: u8, row: Warp) -> bool
-    ensures { λ r. ⌜ r ≡ ltb w n && not (isExited (row .status)) ⌝ }
-{
-    (w < n) & !is_exited(row)
 }

@@ -76,9 +76,13 @@ pub fn put_decimal(out: &mut [u8], at: usize, n: u64) -> usize
     k
 }
 
-// Lays a set of warps as 8 hex digits from at on, where they fit, and else nothing.
+// Lays a set of warps as 8 hex digits from at on, where they fit, and else nothing. Most steps release no warp, so that set is laid at once.
 pub fn put_warps(out: &mut [u8], at: usize, set: u32)
     ensures { λ _. ⌜ now (out .exit) ≡ laid (now (out .entry)) at (warps set) ⌝ }
 {
+    if set == 0 {
+        put(&mut *out, at, b"00000000");
+        return;
+    }
     spell(&mut *out, at, 8, 16, set as u64);
 }

@@ -126,14 +126,13 @@ module _ (before : List ℕ) (l : Laying) where
       record { size = rw (whole, size) (omega (arith, length-append (endAfter (l .lines)) [])); bytes = rw whole e }
 
   -- the line of a 1 or 2, and the end line
-  pub last-stop : (l .refusal ≡ 0 → ⊥) → (l′ : Laying) → l′ ≡ lineLaid l (Refused (l .refusal)) → (mid after : List ℕ) → mid ≡ laid before (l .at) (lineOf (numberIn (l .lines)) (Refused (l .refusal)))
-      → (k : ℕ) → k ≡ length (endAfter (l′ .lines)) → after ≡ laid mid (l′ .at) (endAfter (l′ .lines)) → LastLaid before l (l′ .at + k) after
-  last-stop some l′ is mid after first k size e =
+  pub last-stop : (l .refusal ≡ 0 → ⊥) → (at : ℕ) → at ≡ l .at + length (lineOf (numberIn (l .lines)) (Refused (l .refusal))) → (all : Tally) → all ≡ tallied (l .lines) (Refused (l .refusal))
+      → (mid after : List ℕ) → mid ≡ laid before (l .at) (lineOf (numberIn (l .lines)) (Refused (l .refusal))) → (k : ℕ) → k ≡ length (endAfter all) → after ≡ laid mid at (endAfter all) → LastLaid before l (at + k) after
+  last-stop some at place all counted mid after first k size e =
       let w = lineOf (numberIn (l .lines)) (Refused (l .refusal)) in
       let z = endAfter (tallied (l .lines) (Refused (l .refusal))) in
       let whole : lastOf l ≡ w ∷ z ∷ [] = rw (ne-eqb (l .refusal) 0 some) in
-      let place : l′ .at ≡ l .at + length w = ap (λ (x : Laying). x .at) is in
-      let ends : endAfter (l′ .lines) ≡ z = ap (λ (x : Laying). endAfter (x .lines)) is in
+      let ends : endAfter all ≡ z = ap endAfter counted in
       record {
         size = rw (whole, place) (omega (arith, size ∙ ap length ends, length-append w (z ++ []), length-append z []));
         bytes = rw whole (e ∙ (λ i. laid (first i) (place i) (ends i)));

@@ -14,7 +14,7 @@ ghost use Rattle.printed.specs.Text.{traceRefusal};
 ghost use Rattle.runs.specs.Runs.{numberIn};
 ghost use Rattle.laying.specs.Buffer.{lineLaid, Begun, TurnsLaid, LastLaid, Lays};
 
-// The line of a verdict, laid where it fits.
+// The line of a verdict, laid where it fits. Only the loop calls this: called from two places it would not become part of the loop, and would hand all of l back through memory at every turn.
 fn lay_line(out: &mut [u8], l: Laying, v: Verdict) -> Laying
     requires { ⌜ l .at + mostLine < 18446744073709551616 ⌝ }
     ensures { λ r. ⌜ (r ≡ lineLaid l v) × (now (out .exit) ≡ laid (now (out .entry)) (l .at) (lineOf (numberIn (l .lines)) v)) ⌝ }
@@ -62,12 +62,13 @@ fn lay_last(out: &mut [u8], l: Laying) -> usize
     requires { ⌜ l .at + (mostLine + mostLine) < 18446744073709551616 ⌝ }
     ensures { λ r. ⌜ LastLaid (now (out .entry)) l r (now (out .exit)) ⌝ }
 {
-    if l.refusal != 0 {
-        let stopped = lay_line(&mut *out, l, Verdict::Refused(l.refusal));
-        let lines = stopped.lines;
-        return stopped.at + lines::put_end(&mut *out, stopped.at, lines.accepted, lines.refused);
-    }
     let lines = l.lines;
+    if l.refusal != 0 {
+        let stop = Verdict::Refused(l.refusal);
+        let at = l.at + lines::put_line(&mut *out, l.at, runs::number_in(lines), stop);
+        let all = tables::add(lines, stop);
+        return at + lines::put_end(&mut *out, at, all.accepted, all.refused);
+    }
     l.at + lines::put_end(&mut *out, l.at, lines.accepted, lines.refused)
 }
 

@@ -1,11 +1,10 @@
-// One mbarrier object's row by value: when it is sound, its token, init and inval.
+// One mbarrier object's row by value: its token, init and inval.
 ghost use mathlib.Core.Path.{_≡_};
 ghost use Rattle.object.specs.Tokens.{token, pendingCount};
 ghost use Rattle.object.specs.Row.{dead, outside, stepRow};
-ghost use Rattle.object.specs.Soundness.{liveSound, deadSound, soundRow};
 
 // The most that is expected, and the most transactions either way.
-const MOST: u32 = 1048575;
+pub const MOST: u32 = 1048575;
 
 // The last phase.
 pub const LAST_PHASE: u32 = 4294967295;
@@ -78,40 +77,11 @@ pub fn outside(z: i64) -> bool
     (z < -(MOST as i64)) | ((MOST as i64) < z)
 }
 
-// The same of a row's own count, without making an i64 of it: the check of all rows asks this of each.
-fn row_outside(tx: i32) -> bool
+// The same of a row's own count, without making an i64 of it: the check of all rows asks this of each live one.
+pub fn row_outside(tx: i32) -> bool
     ensures { λ r. ⌜ r ≡ outside tx ⌝ }
 {
     (tx < -(MOST as i32)) | ((MOST as i32) < tx)
-}
-
-// Whether a live row is sound; every u32 is a phase.
-fn live_sound(o: Object) -> bool
-    ensures { λ r. ⌜ r ≡ liveSound o ⌝ }
-{
-    let expected = o.expected;
-    let phase = o.phase;
-    ((1 <= expected) & (expected <= MOST))
-        & (o.pending <= expected)
-        & !row_outside(o.tx)
-        & ((phase != 0) | o.seen)
-}
-
-// Whether a row that is not live is all zero.
-fn dead_sound(o: Object) -> bool
-    ensures { λ r. ⌜ r ≡ deadSound o ⌝ }
-{
-    (o.expected == 0) & (o.pending == 0) & (o.tx == 0) & (o.phase == 0) & !o.seen
-}
-
-// Whether the row is sound.
-pub fn sound(o: Object) -> bool
-    ensures { λ r. ⌜ r ≡ soundRow o ⌝ }
-{
-    if o.live {
-        return live_sound(o);
-    }
-    dead_sound(o)
 }
 
 // The token of a row's state: phase, slot (address divided by 8) and pending count in one number.

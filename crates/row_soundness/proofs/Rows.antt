@@ -1,16 +1,19 @@
 -- A barrier row's soundness, in the order in which the check asks.
 -- Assumes nothing.
-use mathlib.Core.Path.{_≡_, refl, sym, _∙_}
-use mathlib.Core.Bool.{Bool, true, false, _&&_}
+use mathlib.Core.Path.{_≡_, refl, sym, ap, _∙_}
+use mathlib.Core.Bool.{Bool, true, false, _&&_, and-true, cond}
 use mathlib.Core.List.{[], _∷_}
 use Prim.Native.Nat.{ℕ, _^_}
 use lib.Dec.{eqb}
 use lib.Pow.{pow-pos}
-use borrow.Author.Tests.{ne-eqb, eqb-true, lt-ltb}
+use borrow.Author.Tests.{ne-eqb, eq-eqb, eqb-true, lt-ltb}
 use Rattle.folds.specs.Folds.{every}
 use Rattle.folds.proofs.Folds.{and-left, and-right, every-at, every-fails}
 use Rattle.block.specs.Tables.{formNumber, setsInside, waitingArrived, idleZero, activeArrived, activeCount, countOpen, allOpen, reductionWaits, plainNone, rowSound}
+use Rattle.block.specs.declared.Form.{Form}
+use Rattle.block.specs.declared.Form.the-variants.{Idle, Plain, Popc, And, Or}
 use Rattle.block.specs.declared.Barrier.{Barrier}
+use Rattle.row_soundness.specs.Rows.{countSound, lanesSound}
 
 module _ (n live : ℕ) (r : Barrier) where
   -- a row that is all zero is sound if it is idle
@@ -31,43 +34,74 @@ module _ (n live : ℕ) (r : Barrier) where
   abbrev setsSound : Bool
   setsSound = (setsInside n r && waitingArrived r) && activeArrived r
 
-  -- no row is sound whose sets are not, or that is for all and not open
-  pub row-fails : setsSound && allOpen live r ≡ false → false ≡ rowSound n live r
-  row-fails e = go (rowSound n live r) refl
+  -- what is asked of an active row whose sets are sound
+  abbrev pub openSound : Bool
+  openSound = cond (eqb (r .threads) 0) (allOpen live r) (countSound n r)
+
+  -- where it is for all threads
+  pub for-all : r .threads ≡ 0 → allOpen live r ≡ openSound
+  for-all z = sym (ap (λ (t : Bool). cond t (allOpen live r) (countSound n r)) (eq-eqb (r .threads) 0 z))
+
+  -- and where it has a count
+  pub with-count : (r .threads ≡ 0 → ⊥) → countSound n r ≡ openSound
+  with-count z = sym (ap (λ (t : Bool). cond t (allOpen live r) (countSound n r)) (ne-eqb (r .threads) 0 z))
+
+  -- no row is sound whose sets are not
+  pub sets-fail : setsSound ≡ false → false ≡ rowSound n live r
+  sets-fail e = go (rowSound n live r) refl
     where
       go : (t : Bool) → rowSound n live r ≡ t → false ≡ t
-      go true q = let f = every-at _ q in sym e ∙ rw (f 0, f 1, f 3, f 6)
+      go true q = let f = every-at _ q in sym e ∙ rw (f 0, f 1, f 3)
       go false q = refl
 
-  regroup : (x y z : Bool) → x && (y && z) ≡ ((x && true) && y) && z
+  regroup : (x y z : Bool) → x && (y && z) ≡ (x && y) && z
   regroup true y z = refl
   regroup false y z = refl
 
-  clauses : formNumber (r .form) ≡ 1 → r .threads ≡ 0
-      → eqb (r .trues) 0 ≡ (activeCount n r && countOpen r) && (reductionWaits r && plainNone r)
-  clauses p q = rw (p, q)
+  module _ (active : formNumber (r .form) ≡ 0 → ⊥) where
+    not-idle : eqb (formNumber (r .form)) 0 ≡ false
+    not-idle = ne-eqb (formNumber (r .form)) 0 active
 
-  module _ (active : formNumber (r .form) ≡ 0 → ⊥) (e : setsSound && allOpen live r ≡ true) where
-    not-idle : idleZero r ≡ true
-    not-idle = rw (ne-eqb (formNumber (r .form)) 0 active)
+    zero-if-idle : idleZero r ≡ true
+    zero-if-idle = rw not-idle
 
-    -- any other active row is sound when its count and its true lanes are
-    pub active-row : (activeCount n r && countOpen r) && (reductionWaits r && plainNone r) ≡ rowSound n live r
-    unfolding every
-    active-row =
-        let sets = and-left setsSound (allOpen live r) e in
-        rw (
-          and-left (setsInside n r && waitingArrived r) (activeArrived r) sets,
-          not-idle,
-          and-right (setsInside n r && waitingArrived r) (activeArrived r) sets,
-          and-right setsSound (allOpen live r) e,
-        )
-        (regroup (activeCount n r && countOpen r) (reductionWaits r) (plainNone r))
+    -- a row for all threads is asked nothing of a count, and one with a count nothing of all
+    open-is : openSound ≡ (activeCount n r && countOpen r) && allOpen live r
+    open-is = go (eqb (r .threads) 0) refl
+      where
+        go : (t : Bool) → eqb (r .threads) 0 ≡ t → openSound ≡ (activeCount n r && countOpen r) && allOpen live r
+        go true e = rw (not-idle, e)
+        go false e = rw (not-idle, e) (sym (and-true (countSound n r)))
 
-    -- and a plain one for all threads when it has no true lanes
-    pub plain-row : eqb (formNumber (r .form)) 1 && eqb (r .threads) 0 ≡ true → eqb (r .trues) 0 ≡ rowSound n live r
-    plain-row h =
-        let plain = eqb (formNumber (r .form)) 1 in
-        let p = eqb-true (formNumber (r .form)) 1 (and-left plain (eqb (r .threads) 0) h) in
-        let q = eqb-true (r .threads) 0 (and-right plain (eqb (r .threads) 0) h) in
-        clauses p q ∙ active-row
+    lanes-are : lanesSound r ≡ reductionWaits r && plainNone r
+    lanes-are = go (r .form) refl
+      where
+        go : (f : Form) → r .form ≡ f → lanesSound r ≡ reductionWaits r && plainNone r
+        go Idle e = absurd (active (ap formNumber e))
+        go Plain e = rw e
+        go Popc e = rw e (sym (and-true _))
+        go And e = rw e (sym (and-true _))
+        go Or e = rw e (sym (and-true _))
+
+    module _ (e : setsSound ≡ true) where
+      rest : ((activeCount n r && countOpen r) && allOpen live r) && (reductionWaits r && plainNone r) ≡ rowSound n live r
+      unfolding every
+      rest =
+          rw (
+            and-left (setsInside n r && waitingArrived r) (activeArrived r) e,
+            zero-if-idle,
+            and-right (setsInside n r && waitingArrived r) (activeArrived r) e,
+          )
+          (regroup ((activeCount n r && countOpen r) && allOpen live r) (reductionWaits r) (plainNone r))
+
+      -- an active row whose sets are sound is sound when these two are
+      active-row : openSound && lanesSound r ≡ rowSound n live r
+      active-row = (λ i. open-is i && lanes-are i) ∙ rest
+
+      -- it is not where the first is not
+      pub open-fails : openSound ≡ false → false ≡ rowSound n live r
+      open-fails q = sym (ap (λ (t : Bool). t && lanesSound r) q) ∙ active-row
+
+      -- and else the second decides
+      pub lanes-decide : openSound ≡ true → lanesSound r ≡ rowSound n live r
+      lanes-decide q = sym (ap (λ (t : Bool). t && lanesSound r) q) ∙ active-row

@@ -3,9 +3,8 @@ use block::Barrier;
 use block::LANE_COUNT;
 ghost use mathlib.Core.Path.{_≡_};
 ghost use mathlib.Core.Bool.{_&&_};
-ghost use Prim.Native.Nat.{_*_};
-ghost use Rattle.sets.specs.Sets.{size};
-ghost use Rattle.block.specs.Tables.{laneCount, setsInside, waitingArrived, idleZero, activeArrived, activeCount, countOpen, allOpen, reductionWaits, plainNone, rowSound};
+ghost use Rattle.block.specs.Tables.{setsInside, waitingArrived, idleZero, activeArrived, allOpen, rowSound};
+ghost use Rattle.row_soundness.specs.Rows.{countSound, lanesSound};
 
 // Whether the row, if it is idle, is all zero.
 fn idle_zero(r: Barrier) -> bool
@@ -34,44 +33,47 @@ fn all_open(live: u32, r: Barrier) -> bool
         | (!(r.threads == 0) | (!sets::part(live, r.arrived) & (r.waiting == r.arrived)))
 }
 
-// Whether the row, if it is active with a count, has one that a block of n warps can give and its arrivals' lanes are below it.
-fn count_sound(n: u8, r: Barrier, lanes: u32) -> bool
-    requires { ⌜ lanes ≡ laneCount * size (r .arrived) ⌝ }
-    ensures { λ t. ⌜ t ≡ activeCount n r && countOpen r ⌝ }
+// Whether a count is one that a block of n warps can give, and the arrivals' lanes are below it.
+fn count_sound(n: u8, r: Barrier) -> bool
+    ensures { λ t. ⌜ t ≡ countSound n r ⌝ }
 {
-    let f = r.form;
-    let idle = block::form_number(f) == 0;
     let threads = r.threads as u32;
     let possible = (threads % LANE_COUNT == 0) & (threads <= LANE_COUNT * (n as u32));
-    (idle | ((threads == 0) | possible)) & (idle | ((threads == 0) | (lanes < threads)))
+    if !possible {
+        return false;
+    }
+    LANE_COUNT * sets::size(r.arrived) < threads
 }
 
-// Whether the row's true lanes are sound, its arrivals' lanes being given.
-fn lanes_sound(r: Barrier, lanes: u32) -> bool
-    requires { ⌜ lanes ≡ laneCount * size (r .arrived) ⌝ }
-    ensures { λ t. ⌜ t ≡ reductionWaits r && plainNone r ⌝ }
+// Whether the true lanes of an active row are sound: none where it is plain, and else every arrival waits and has at most 32.
+fn lanes_sound(r: Barrier) -> bool
+    ensures { λ t. ⌜ t ≡ lanesSound r ⌝ }
 {
     let f = r.form;
-    let form = block::form_number(f);
-    (!(1 < form) | ((r.waiting == r.arrived) & (r.trues <= lanes)))
-        & (!(form == 1) | (r.trues == 0))
+    if block::form_number(f) == 1 {
+        return r.trues == 0;
+    }
+    (r.waiting == r.arrived) & (r.trues <= LANE_COUNT * sets::size(r.arrived))
 }
 
-// Whether a barrier row is sound in a block of n warps, of which those of live have not exited.
+// Whether a barrier row is sound in a block of n warps, of which those of live have not exited. Each guard asks only what the ones before it leave open: the arrivals are counted where a row has a count or is a reduction.
 pub fn row_sound(n: u8, live: u32, r: Barrier) -> bool
     ensures { λ t. ⌜ t ≡ rowSound n live r ⌝ }
 {
     let f = r.form;
-    let form = block::form_number(f);
-    if form == 0 {
+    if block::form_number(f) == 0 {
         return idle_zero(r);
     }
-    if !(sets_sound(n, r) & all_open(live, r)) {
+    if !sets_sound(n, r) {
         return false;
     }
-    if (form == 1) & (r.threads == 0) {
-        return r.trues == 0;
+    let open = if r.threads == 0 {
+        all_open(live, r)
+    } else {
+        count_sound(n, r)
+    };
+    if !open {
+        return false;
     }
-    let lanes = LANE_COUNT * sets::size(r.arrived);
-    count_sound(n, r, lanes) & lanes_sound(r, lanes)
+    lanes_sound(r)
 }

@@ -1,19 +1,23 @@
--- The warp rows' soundness, in the order in which the check asks: the rows past the number of warps, then the warps.
+-- The warp rows' soundness, in the order in which the check asks: the rows past the number of warps, then the warps; and who of them has not exited.
 -- Assumes nothing.
 use mathlib.Core.Path.{_≡_, refl, sym, _∙_}
-use mathlib.Core.Bool.{Bool, true, false, _&&_, and-true}
-use Prim.Native.Nat.{ℕ, _+_, _≤_, _<_}
+use mathlib.Core.Bool.{Bool, true, false, not, _&&_, and-true}
+use Prim.Native.Nat.{ℕ, zero, suc, _+_, _-_, _*_, _^_, _≤_, _<_}
+use native.Mathlib.Nat.{pow-suc, zero-mul, add-zero}
+use native.Mathlib.Numerals.{add-one}
 use native.Mathlib.Decide.{ℕ-discrete}
 use native.Mathlib.Omega.{arith}
 use lib.Dec.{eqb, ltb}
 use borrow.Author.Tests.{lt-ltb, le-ltb, ltb-true, ltb-false}
 use Rattle.folds.specs.Folds.{all}
 use Rattle.folds.proofs.Folds.{all-at, all-of}
+use Rattle.sets.specs.Sets.{digit, setOf}
+use Rattle.sets.proofs.Sets.{setOf-cong, setOf-far}
 use Rattle.block.specs.declared.Status.{Status}
 use Rattle.block.specs.declared.Status.the-variants.{Ready, Waiting, Exited}
 use Rattle.block.specs.declared.Warp.{Warp}
 use Rattle.block.specs.declared.Block.{Block}
-use Rattle.block.specs.Tables.{mostWarps, warpAt, isReady, waitsPlaced, warpSound}
+use Rattle.block.specs.Tables.{mostWarps, warpAt, isReady, isExited, waitsPlaced, warpSound, liveOf}
 
 -- a row as it is at the start: ready with result 0
 abbrev pub isFresh : Warp → Bool
@@ -59,3 +63,35 @@ fresh-more b w so e v a l = go (ℕ-discrete v w)
     go : Dec (v ≡ w) → isFresh (warpAt b v) ≡ true
     go (yes q) = rw q e
     go (no q) = so v a (omega (arith, l, q))
+
+-- ---- who has not exited
+
+abbrev pub exits : Block → ℕ → Bool
+exits b v = isExited (warpAt b v .status)
+
+-- a warp that has not exited is not put to those that have
+pub exited-kept : (b : Block) (w gone : ℕ) → gone ≡ setOf w (exits b) → exits b w ≡ false → gone ≡ setOf (w + 1) (exits b)
+unfolding setOf
+exited-kept b w gone so e = so ∙ sym (rw (add-one, e, zero-mul (2 ^ w)) (add-zero (setOf w (exits b))))
+
+both-digits : (t : Bool) (x y m : ℕ) → x + y + 1 ≡ m → x + digit (not t) * m + (y + digit t * m) + 1 ≡ m * 2
+both-digits true x y m e = omega (arith, e)
+both-digits false x y m e = omega (arith, e)
+
+-- a set and the rest of the numbers below n are all of them
+all-digits : (p : ℕ → Bool) (n : ℕ) → setOf n (λ v. not (p v)) + setOf n p + 1 ≡ 2 ^ n
+unfolding setOf
+all-digits p zero = refl
+all-digits p (suc n) = rw (pow-suc 2 n) (both-digits (p n) (setOf n (λ v. not (p v))) (setOf n p) (2 ^ n) (all-digits p n))
+
+-- the warps of the block that have not exited are all that live
+live-rest : (b : Block) → b .warps ≤ 32 → setOf (b .warps) (λ v. not (exits b v)) ≡ liveOf b
+live-rest b l =
+    let n = b .warps in
+    let lives : ℕ → Bool = λ v. ltb v n && not (exits b v) in
+    let all : n + (32 - n) ≡ 32 = omega (arith, l) in
+    setOf-cong (λ v. not (exits b v)) lives n (λ v m. rw (lt-ltb v n m)) ∙ rw all at (setOf-far lives n (32 - n) (λ v a. rw (le-ltb v n a)))
+
+-- what is left of the block's warps when those that have exited are taken away
+pub left-live : (b : Block) (alive gone : ℕ) → b .warps ≤ 32 → gone ≡ setOf (b .warps) (exits b) → alive + gone + 1 ≡ 2 ^ b .warps → alive ≡ liveOf b
+left-live b alive gone l e f = omega (arith, e, f, all-digits (exits b) (b .warps)) ∙ live-rest b l

@@ -7,9 +7,13 @@ use block::Status;
 use block::Warp;
 ghost use mathlib.Core.Path.{_≡_};
 ghost use mathlib.Core.Bool.{_&&_};
+ghost use Prim.Native.Nat.{_+_, _^_, _≤_, _<_};
 ghost use lib.Dec.{eqb};
 ghost use Rattle.block.specs.Tables.{isReady, soundBlock};
 ghost use Rattle.soundness.specs.Seen.{nothingSeen, surveyOf};
+
+// The set of all 32 warps.
+const ALL_WARPS: u32 = 4294967295;
 
 // What a step sees of a block: whether its tables are sound and, where they are, how many warps it has, which of them have not exited, and the rows of the warp and of the barrier that the step names.
 pub struct Survey {
@@ -42,7 +46,18 @@ fn unsound() -> Survey
     }
 }
 
-// What a step of warp own sees of the block, at barrier named: the rows past the number of warps, then the warps, who are gathered where they wait, and last the barriers. The rows of the warp and of the barrier are read on the way, since another function that is given the block costs a copy of it.
+// The warps of a block of n but those of gone.
+fn all_but(n: u8, gone: u32) -> u32
+    requires { ⌜ (n ≤ 32) × (gone < 2 ^ n) ⌝ }
+    ensures { λ r. ⌜ r + gone + 1 ≡ 2 ^ n ⌝ }
+{
+    if n < MOST_WARPS {
+        return (1 << (n as u32)) - 1 - gone;
+    }
+    ALL_WARPS - gone
+}
+
+// What a step of warp own sees of the block, at barrier named: the rows past the number of warps, then the warps, who are gathered where they wait and who has exited, and last the barriers. The rows of the warp and of the barrier are read on the way, since another function that is given the block costs a copy of it.
 pub fn survey_of(b: Block, own: u8, named: u8) -> Survey
     ensures { λ r. ⌜ r ≡ surveyOf b own named ⌝ }
 {
@@ -58,12 +73,11 @@ pub fn survey_of(b: Block, own: u8, named: u8) -> Survey
         }
         spare += 1;
     }
-    let mut alive: u32 = 0;
+    let mut gone: u32 = 0;
     let mut here = [0; BARRIER_COUNT as usize];
     let mut w: u8 = 0;
     while w < n {
         let row = b.rows[w as usize];
-        alive += (block::is_live(n, w, row) as u32) << (w as u32);
         let s = row.status;
         match s {
             Status::Ready => {}
@@ -73,10 +87,13 @@ pub fn survey_of(b: Block, own: u8, named: u8) -> Survey
                 }
                 here[at as usize] += 1 << (w as u32);
             }
-            Status::Exited => {}
+            Status::Exited => {
+                gone += 1 << (w as u32);
+            }
         }
         w += 1;
     }
+    let alive = all_but(n, gone);
     let barriers = b.barriers;
     let rows = agreement::rows_agree(n, barriers, alive, here, named);
     if !rows.all {

@@ -1,49 +1,73 @@
 -- `laying::lay_last` meets its contract: with the line of a 1 or 2 and without it.
 -- Assumes nothing.
-use mathlib.Core.Path.{ap}
+use mathlib.Core.Path.{ap, _∙_}
+use Prim.Native.Nat.{ℕ, _+_, _<_}
 use native.Mathlib.Omega.{arith}
+use lib.ListN.{length}
 use borrow.Author.Needs.{needs}
 use denote.Ref.{now}
 use Rattle.block.specs.declared.Verdict.the-variants.{Refused}
+use Rattle.fields.specs.Num.{laid}
+use Rattle.lines.specs.Lines.{lineOf}
 use Rattle.lines.proofs.Lines.{line-most, end-most}
-use Rattle.runs.specs.Runs.{numberIn}
-use Rattle.looking.specs.declared.Laying.{Laying}
 use Rattle.laying.proofs.Buffer.{last-end, last-stop}
 use Rattle.laying.proofs.lay_last.Statement.{statement}
 use Rattle.laying.proofs.lay_last.Tie as tie
 
-lay-line-requires : tie.Need-lay-line-requires
-lay-line-requires c κs = search needs
+number-in-requires : tie.Need-number-in-requires
+number-in-requires c κs = search needs
+
+put-line-requires : tie.Need-put-line-requires
+put-line-requires c κs = search needs
+
+abbrev start : tie.After-put-line → tie.Start
+start p = p .before .before .before .before .before .before .before
+
+-- the line is no longer than the longest
+line-fits : (p : tie.After-put-line) → start p .args .l .at + p .put-line .result + 56 < 18446744073709551616
+line-fits p =
+    let s = start p in
+    omega (arith, p .put-line .ensures .0, line-most (p .before .number-in .result) (Refused (s .args .l .refusal)), s .pre)
+
+add-at : tie.Need-add-at
+add-at c = omega (arith, line-fits (c .before .before .before))
+
+add-requires : tie.Need-add-requires
+add-requires c κs = search needs
 
 put-end-requires : tie.Need-put-end-requires
 put-end-requires c κs = search needs
 
 add-result : tie.Need-add-result
 add-result c =
-    let p = c .before .before .before in
-    let l = c .before .before .before .before .before .before .before .before in
-    let start = l .before .before .before .before .before in
-    let m = start .args .l in
-    let place = ap (λ (x : Laying). x .at) (l .lay-line .ensures .0) in
-    omega (
-      arith,
-      p .put-end .ensures .0,
-      end-most (l .lay-line .result .lines .accepted) (l .lay-line .result .lines .refused),
-      place,
-      line-most (numberIn (m .lines)) (Refused (m .refusal)),
-      start .pre,
-    )
+    let e = c .before .before in
+    let a = e .before .before in
+    omega (arith, e .put-end .ensures .0, end-most (a .add .result .accepted) (a .add .result .refused), line-fits (a .before .before .before .before))
 
 same-length : tie.Need-same-length
 same-length c = search needs
 
 returns : tie.Need-returns
 returns c =
-    let p = c .before .before .before in
-    let l = c .before .before .before .before .before .before .before .before in
-    let a = l .before .before .before .before .before .args in
-    last-stop (now (a .out)) (a .l) (l .before .before .if1 .taken) (l .lay-line .result) (l .lay-line .ensures .0) (l .lay-line .last .0) (p .put-end .last .0)
-    (l .lay-line .ensures .1) (p .put-end .result) (p .put-end .ensures .0) (p .put-end .ensures .1)
+    let e = c .before .before in
+    let t = e .before .before in
+    let p = t .before .before .before .before in
+    let a = start p .args in
+    let n = p .before .number-in .ensures in
+    last-stop
+    (now (a .out))
+    (a .l)
+    (p .before .before .before .if1 .taken)
+    _
+    (ap (λ (k : ℕ). a .l .at + k) (p .put-line .ensures .0 ∙ ap (λ (k : ℕ). length (lineOf k (Refused (a .l .refusal)))) n))
+    (t .add .result)
+    (t .add .ensures)
+    (p .put-line .last .0)
+    (e .put-end .last .0)
+    (p .put-line .ensures .1 ∙ ap (λ (k : ℕ). laid (now (a .out)) (a .l .at) (lineOf k (Refused (a .l .refusal)))) n)
+    (e .put-end .result)
+    (e .put-end .ensures .0)
+    (e .put-end .ensures .1)
 
 put-end-requires-2 : tie.Need-put-end-requires-2
 put-end-requires-2 c κs = search needs
@@ -51,8 +75,8 @@ put-end-requires-2 c κs = search needs
 add-result-2 : tie.Need-add-result-2
 add-result-2 c =
     let p = c .before .before .before in
-    let start = p .before .before .before .before .before .before in
-    omega (arith, p .put-end2 .ensures .0, end-most (start .args .l .lines .accepted) (start .args .l .lines .refused), start .pre)
+    let s = p .before .before .before .before .before .before in
+    omega (arith, p .put-end2 .ensures .0, end-most (s .args .l .lines .accepted) (s .args .l .lines .refused), s .pre)
 
 same-length-2 : tie.Need-same-length-2
 same-length-2 c = search needs
@@ -60,15 +84,18 @@ same-length-2 c = search needs
 returns-2 : tie.Need-returns-2
 returns-2 c =
     let p = c .before .before .before in
-    let e = p .before .before .before in
-    let a = e .before .before .before .args in
+    let e = p .before .before in
+    let a = e .before .before .before .before .args in
     last-end (now (a .out)) (a .l) (e .if1 .left) (p .put-end2 .result) (p .put-end2 .last .0) (p .put-end2 .ensures .0) (p .put-end2 .ensures .1)
 
 pub lay-last-spec : {M : Type 1} → statement M
 lay-last-spec =
     tie.close
     (tie.spec
-    lay-line-requires
+    number-in-requires
+    put-line-requires
+    add-at
+    add-requires
     put-end-requires
     add-result
     same-length

@@ -1,10 +1,8 @@
-use mathlib.Core.Bool.{_&&_}
-use mathlib.Core.Path.{_∙_, sym}
-use native.Mathlib.Omega.{arith}
+use mathlib.Core.Logic.{⊎-elim}
+use mathlib.Core.Path.{_≡_, _∙_, sym}
 use borrow.Author.Tests.{not-true, not-false}
 use borrow.Author.Needs.{needs}
-use Rattle.sets.proofs.Sets.{size-le}
-use Rattle.row_soundness.proofs.Rows.{idle-row, row-fails, active-row, plain-row}
+use Rattle.row_soundness.proofs.Rows.{openSound, for-all, with-count, idle-row, sets-fail, open-fails, lanes-decide}
 use Rattle.row_soundness.proofs.row_sound.Statement.{statement}
 use Rattle.row_soundness.proofs.row_sound.Tie as tie
 
@@ -22,46 +20,52 @@ returns c =
 sets-sound-requires : tie.Need-sets-sound-requires
 sets-sound-requires c κs = search needs
 
+returns-2 : tie.Need-returns-2
+returns-2 c =
+    let s = c .before in
+    let a = s .before .before .before .args in
+    sets-fail (a .n) (a .live) (a .r) (sym (s .sets-sound .ensures) ∙ not-true (s .sets-sound .result) (c .if2 .taken))
+
 all-open-requires : tie.Need-all-open-requires
 all-open-requires c κs = search needs
 
-returns-2 : tie.Need-returns-2
-returns-2 c =
-    let a = c .before .before .before .before .before .args in
-    row-fails (a .n) (a .live) (a .r)
-    (rw (c .before .before .sets-sound .ensures, c .before .all-open .ensures) at (not-true (c .before .before .sets-sound .result && c .before .all-open .result) (c .if2 .taken)))
+count-sound-requires : tie.Need-count-sound-requires
+count-sound-requires c κs = search needs
+
+abbrev start : tie.Joined3 → tie.Start
+start j = j .before .before .before .before .before .before
+
+open-is : (j : tie.Joined3) → let a = start j .args in j .if3 .open ≡ openSound (a .n) (a .live) (a .r)
+open-is j =
+    let a = start j .args in
+    ⊎-elim
+    (λ t. t .2 ∙ t .1 .ensures ∙ for-all (a .n) (a .live) (a .r) (t .0 .taken))
+    (λ t. t .2 ∙ t .1 .ensures ∙ with-count (a .n) (a .live) (a .r) (t .0 .left))
+    (j .if3 .came)
 
 returns-3 : tie.Need-returns-3
 returns-3 c =
-    let o = c .before .before .before .before in
-    let f = o .before .before .before in
-    let a = f .before .args in
-    let n = f .form-number .ensures in
-    plain-row (a .n) (a .live) (a .r) (λ z. o .before .before .if1 .left (n ∙ z))
-    (rw (o .before .sets-sound .ensures, o .all-open .ensures) at (not-false (o .before .sets-sound .result && o .all-open .result) (c .before .before .before .if2 .left)))
-    (rw n at (c .before .if3 .taken))
-
-size-requires : tie.Need-size-requires
-size-requires c κs = search needs
-
-mul-lanes : tie.Need-mul-lanes
-mul-lanes c = omega (arith, size-le 32 (c .before .before .before .before .before .before .before .before .args .r .arrived))
-
-count-sound-requires : tie.Need-count-sound-requires
-count-sound-requires c κs = search needs
+    let j = c .before in
+    let s = j .before .before .before in
+    let e = s .before in
+    let a = start j .args in
+    open-fails (a .n) (a .live) (a .r) (λ z. e .if1 .left (e .before .form-number .ensures ∙ z))
+    (sym (s .sets-sound .ensures) ∙ not-false (s .sets-sound .result) (j .before .before .if2 .left))
+    (sym (open-is j) ∙ not-true (j .if3 .open) (c .if4 .taken))
 
 lanes-sound-requires : tie.Need-lanes-sound-requires
 lanes-sound-requires c κs = search needs
 
 returns-4 : tie.Need-returns-4
 returns-4 c =
-    let o = c .before .before .before .before .before .before in
-    let f = o .before .before .before in
-    let a = f .before .args in
-    let n = f .form-number .ensures in
-    rw (c .before .count-sound .ensures, c .lanes-sound .ensures)
-    (active-row (a .n) (a .live) (a .r) (λ z. o .before .before .if1 .left (n ∙ z))
-    (rw (o .before .sets-sound .ensures, o .all-open .ensures) at (not-false (o .before .sets-sound .result && o .all-open .result) (c .before .before .before .before .before .if2 .left))))
+    let j = c .before .before in
+    let s = j .before .before .before in
+    let e = s .before in
+    let a = start j .args in
+    c .lanes-sound .ensures
+    ∙ lanes-decide (a .n) (a .live) (a .r) (λ z. e .if1 .left (e .before .form-number .ensures ∙ z))
+    (sym (s .sets-sound .ensures) ∙ not-false (s .sets-sound .result) (j .before .before .if2 .left))
+    (sym (open-is j) ∙ not-false (j .if3 .open) (c .before .if4 .left))
 
 pub row-sound-spec : {M : Type 1} → statement M
 row-sound-spec =
@@ -71,11 +75,9 @@ row-sound-spec =
     idle-zero-requires
     returns
     sets-sound-requires
-    all-open-requires
     returns-2
-    returns-3
-    size-requires
-    mul-lanes
+    all-open-requires
     count-sound-requires
+    returns-3
     lanes-sound-requires
     returns-4)

@@ -1,36 +1,24 @@
 use mathlib.Core.Path.{_≡_, refl, sym, subst, _∙_}
-use mathlib.Core.Bool.{Bool, true, false, not, _&&_}
+use mathlib.Core.Bool.{true, false}
 use mathlib.Core.Logic.{⊎-elim}
 use Prim.Native.Nat.{ℕ, _+_, _*_, _%_, _^_, _≤_, _<_, _-_}
 use native.Mathlib.Nat.{le-antisymm}
 use native.Mathlib.Omega.{arith}
-use lib.Dec.{leb, ltb}
+use lib.Dec.{leb}
 use lib.ListN.{length-map}
 use borrow.Author.Needs.{needs}
-use mir.Val.{boolByte}
 use borrow.Author.Tests.{not-true, not-false, leb-true, le-ltb, lt-ltb}
 use Rattle.folds.specs.Folds.{all}
 use Rattle.folds.proofs.Folds.{and-right, all-none, all-more, all-fails, every-fails}
 use Rattle.sets.specs.Sets.{setOf}
-use Rattle.sets.proofs.Sets.{setOf-more, setOf-fits, setOf-far}
-use Rattle.block.specs.Tables.{freshWarp, warpAt, isExited, waitsPlaced, warpsCounted, liveOf, soundBlock}
-use Rattle.block.specs.declared.Block.{Block}
+use Rattle.sets.proofs.Sets.{setOf-lt, setOf-more, setOf-fits}
+use Rattle.block.specs.Tables.{freshWarp, warpAt, waitsPlaced, warpsCounted, liveOf, soundBlock}
 use Rattle.block.proofs.Tables.{past}
 use Rattle.soundness.proofs.Seen.{not-sound, is-sound, seen}
-use Rattle.soundness.proofs.Warps.{FreshTo, own-row, spare-row, all-warps, fresh-more}
+use Rattle.soundness.proofs.Warps.{FreshTo, own-row, spare-row, all-warps, fresh-more, exits, exited-kept, left-live}
 use Rattle.soundness.proofs.Waiters.{Gathered, gathered-none, gathered-kept, waits-here, gathered-more, all-agreeing, rows-decide}
 use Rattle.soundness.proofs.survey_of.Statement.{statement}
 use Rattle.soundness.proofs.survey_of.Tie as tie
-
--- warp v is one of the block's and has not exited
-abbrev lives : Block → ℕ → Bool
-lives b v = ltb v (b .warps) && not (isExited (warpAt b v .status))
-
--- the warps of the block are all that live
-live-all : (b : Block) → b .warps ≤ 32 → setOf (b .warps) (lives b) ≡ liveOf b
-live-all b l =
-    let size : b .warps + (32 - b .warps) ≡ 32 = omega (arith, l) in
-    rw size at (setOf-far (lives b) (b .warps) (32 - b .warps) (λ v a. rw (le-ltb v (b .warps) a)))
 
 abbrev Inv-loop : tie.InvT-loop
 Inv-loop own named b n spare₀ spare = (n ≤ spare) × (spare ≤ 32) × FreshTo b spare
@@ -39,14 +27,14 @@ abbrev μ-loop : tie.MeasureT-loop
 μ-loop own named b n spare₀ spare = 32 - spare
 
 abbrev Inv-loop2 : tie.InvT-loop2
-Inv-loop2 own named b n spare alive₀ here₀ w₀ alive here w =
+Inv-loop2 own named b n spare gone₀ here₀ w₀ gone here w =
     (w ≤ n)
     × (all w (λ v. waitsPlaced (warpAt b v .status)) ≡ true)
-    × (alive ≡ setOf w (lives b))
+    × (gone ≡ setOf w (exits b))
     × Gathered w here b
 
 abbrev μ-loop2 : tie.MeasureT-loop2
-μ-loop2 own named b n spare alive₀ here₀ w₀ alive here w = n - w
+μ-loop2 own named b n spare gone₀ here₀ w₀ gone here w = n - w
 
 unsound-requires : tie.Need-unsound-requires Inv-loop μ-loop Inv-loop2 μ-loop2
 unsound-requires c κs = search needs
@@ -120,30 +108,6 @@ below c = let h = c .before in omega (arith, few (h .before .before .before), h 
 element-copy-out-row-2 : tie.Need-element-copy-out-row-2 Inv-loop μ-loop Inv-loop2 μ-loop2
 element-copy-out-row-2 c = below c
 
-is-live-requires : tie.Need-is-live-requires Inv-loop μ-loop Inv-loop2 μ-loop2
-is-live-requires c κs = search needs
-
-cast-alive : tie.Need-cast-alive Inv-loop μ-loop Inv-loop2 μ-loop2
-cast-alive c = search needs
-
-cast-alive-2 : tie.Need-cast-alive-2 Inv-loop μ-loop Inv-loop2 μ-loop2
-cast-alive-2 c = search needs
-
-shl-alive : tie.Need-shl-alive Inv-loop μ-loop Inv-loop2 μ-loop2
-shl-alive c = below (c .before .before)
-
--- the live ones with one warp more
-live-more : (c : tie.After-is-live Inv-loop μ-loop Inv-loop2 μ-loop2)
-    → let h = c .before .before .before in h .loop2 .alive + boolByte (c .is-live .result) * 2 ^ h .loop2 .w % 2 ^ 32 ≡ setOf (h .loop2 .w + 1) (lives (h .before .before .before .before .args .t1))
-live-more c =
-    let h = c .before .before .before in
-    rw (h .loop2 .inv .2) (setOf-more _ (h .loop2 .w) _ (below (c .before .before)) (c .is-live .ensures))
-
-add-alive : tie.Need-add-alive Inv-loop μ-loop Inv-loop2 μ-loop2
-add-alive c =
-    let l = below (c .before .before) in
-    record { fits = rw (live-more c) (setOf-fits _ _ (omega (arith, l))) }
-
 enum-told : tie.Need-enum-told Inv-loop μ-loop Inv-loop2 μ-loop2
 enum-told c = search needs
 
@@ -157,7 +121,7 @@ returns-3 : tie.Need-returns-3 Inv-loop μ-loop Inv-loop2 μ-loop2
 unfolding soundBlock
 returns-3 c =
     let x = c .before .before .before in
-    let p = x .before .before .before .before in
+    let p = x .before .before .before in
     let h = p .before in
     let a = h .before .before .before .before .args in
     let b = a .t1 in
@@ -174,7 +138,7 @@ cast-here : tie.Need-cast-here Inv-loop μ-loop Inv-loop2 μ-loop2
 cast-here c = search needs
 
 shl-here : tie.Need-shl-here Inv-loop μ-loop Inv-loop2 μ-loop2
-shl-here c = below (c .before .before .before .before .before .before)
+shl-here c = below (c .before .before .before .before .before)
 
 cast-here-2 : tie.Need-cast-here-2 Inv-loop μ-loop Inv-loop2 μ-loop2
 cast-here-2 c = omega (arith, placed c)
@@ -187,7 +151,7 @@ array-read-here c = omega (arith, placed c)
 
 add-here : tie.Need-add-here Inv-loop μ-loop Inv-loop2 μ-loop2
 add-here c =
-    let p = c .before .before .before .before .before .before in
+    let p = c .before .before .before .before .before in
     let h = p .before in
     let b = h .before .before .before .before .args .t1 in
     let l = below p in
@@ -200,6 +164,25 @@ array-write-here c = omega (arith, placed c)
 enum-told-2 : tie.Need-enum-told-2 Inv-loop μ-loop Inv-loop2 μ-loop2
 enum-told-2 c = search needs
 
+cast-gone : tie.Need-cast-gone Inv-loop μ-loop Inv-loop2 μ-loop2
+cast-gone c = search needs
+
+shl-gone : tie.Need-shl-gone Inv-loop μ-loop Inv-loop2 μ-loop2
+shl-gone c = below (c .before .before .before)
+
+-- a warp that has exited is put to those that have
+one-more-gone : (c : tie.After-enum-told2 Inv-loop μ-loop Inv-loop2 μ-loop2)
+    → let h = c .before .before .before .before in h .loop2 .gone + 1 * 2 ^ h .loop2 .w % 2 ^ 32 ≡ setOf (h .loop2 .w + 1) (exits (h .before .before .before .before .args .t1))
+one-more-gone c =
+    let p = c .before .before .before in
+    let h = p .before in
+    rw (h .loop2 .inv .2) (setOf-more _ (h .loop2 .w) true (below p) (rw (c .enum-told2 .given .1)))
+
+add-gone : tie.Need-add-gone Inv-loop μ-loop Inv-loop2 μ-loop2
+add-gone c =
+    let l = below (c .before .before .before) in
+    record { fits = rw (one-more-gone c) (setOf-fits _ _ (omega (arith, l))) }
+
 add-w : tie.Need-add-w Inv-loop μ-loop Inv-loop2 μ-loop2
 add-w c = omega arith
 
@@ -208,34 +191,50 @@ loop2-less c = omega arith
 
 -- one warp more is gathered
 gathers : (c : tie.At-match-came Inv-loop μ-loop Inv-loop2 μ-loop2)
-    → let h = c .before .before .before .before in Gathered (h .loop2 .w + 1) (c .match .here) (h .before .before .before .before .args .t1)
+    → let h = c .before .before .before in Gathered (h .loop2 .w + 1) (c .match .here) (h .before .before .before .before .args .t1)
 gathers c =
-    let p = c .before .before .before in
+    let p = c .before .before in
     let h = p .before in
     let b = h .before .before .before .before .args .t1 in
     let w = h .loop2 .w in
     let here = h .loop2 .here in
     let so = h .loop2 .inv .3 in
     ⊎-elim
-    (λ a. rw (a .2) (gathered-kept b w here so (λ k. rw (a .1 .given .1))))
+    (λ a. rw (a .3) (gathered-kept b w here so (λ k. rw (a .1 .given .1))))
     (⊎-elim
-    (λ a. rw (a .4) (gathered-more b w here so _ (a .1 .given .1) (below p) (a .3 .left)))
-    (λ a. rw (a .2) (gathered-kept b w here so (λ k. rw (a .1 .given .1)))))
+    (λ a. rw (a .5) (gathered-more b w here so _ (a .1 .given .1) (below p) (a .3 .left)))
+    (λ a. rw (a .3) (gathered-kept b w here so (λ k. rw (a .1 .given .1)))))
     (c .match .came)
 
 -- and if it waits, then at a barrier that there is
 waits-placed : (c : tie.At-match-came Inv-loop μ-loop Inv-loop2 μ-loop2)
-    → let h = c .before .before .before .before in waitsPlaced (warpAt (h .before .before .before .before .args .t1) (h .loop2 .w) .status) ≡ true
+    → let h = c .before .before .before in waitsPlaced (warpAt (h .before .before .before .before .args .t1) (h .loop2 .w) .status) ≡ true
 waits-placed c =
     ⊎-elim
     (λ a. rw (a .1 .given .1))
     (⊎-elim (λ a. rw (a .1 .given .1) (lt-ltb _ 16 (a .3 .left))) (λ a. rw (a .1 .given .1)))
     (c .match .came)
 
+-- one warp more is asked whether it has exited
+exited-more : (c : tie.At-match-came Inv-loop μ-loop Inv-loop2 μ-loop2)
+    → let h = c .before .before .before in c .match .gone ≡ setOf (h .loop2 .w + 1) (exits (h .before .before .before .before .args .t1))
+exited-more c =
+    let p = c .before .before in
+    let h = p .before in
+    let b = h .before .before .before .before .args .t1 in
+    let w = h .loop2 .w in
+    let kept : exits b w ≡ false → h .loop2 .gone ≡ setOf (w + 1) (exits b) = λ e. exited-kept b w (h .loop2 .gone) (h .loop2 .inv .2) e in
+    ⊎-elim
+    (λ a. a .2 ∙ kept (rw (a .1 .given .1)))
+    (⊎-elim
+    (λ a. a .4 ∙ kept (rw (a .1 .given .1)))
+    (λ a. a .2 ∙ rw (h .loop2 .inv .2) (setOf-more _ w true (below p) (rw (a .1 .given .1)))))
+    (c .match .came)
+
 loop2-again : tie.Need-loop2-again Inv-loop μ-loop Inv-loop2 μ-loop2
 loop2-again c =
-    let h = c .before .before .before .before in
-    (omega arith, all-more _ (h .loop2 .w) (h .loop2 .inv .1) (waits-placed c), live-more (c .before), gathers c)
+    let h = c .before .before .before in
+    (omega arith, all-more _ (h .loop2 .w) (h .loop2 .inv .1) (waits-placed c), exited-more c, gathers c)
 
 -- all rows past the number of warps are fresh
 all-spare : (c : tie.After-loop Inv-loop μ-loop Inv-loop2 μ-loop2) → FreshTo (c .before .before .before .args .t1) 32
@@ -245,33 +244,40 @@ all-spare c v a l = c .before .loop .inv .2 v a (omega (arith, l, c .loop-test .
 at-end : (c : tie.After-loop2 Inv-loop μ-loop Inv-loop2 μ-loop2) → c .before .loop2 .w ≡ c .before .before .before .before .before .args .t1 .warps
 at-end c = le-antisymm (c .before .loop2 .inv .0) (c .loop2-test .left)
 
-rows-agree-requires : tie.Need-rows-agree-requires Inv-loop μ-loop Inv-loop2 μ-loop2
-rows-agree-requires c κs = search needs
-
 abbrev start : tie.After-loop2 Inv-loop μ-loop Inv-loop2 μ-loop2 → tie.Start Inv-loop μ-loop Inv-loop2 μ-loop2
 start p = p .before .before .before .before .before
 
--- those that were gathered are the warps that have not exited
-alive : (p : tie.After-loop2 Inv-loop μ-loop Inv-loop2 μ-loop2) → p .before .loop2 .alive ≡ liveOf (start p .args .t1)
-alive p =
-    let h = p .before in
-    let b = start p .args .t1 in
-    h .loop2 .inv .2 ∙ subst (λ (m : ℕ). setOf m (lives b) ≡ liveOf b) (sym (at-end p)) (live-all b (few (h .before .before .before)))
+-- those that were put together are the warps that have exited
+gone-is : (p : tie.After-loop2 Inv-loop μ-loop Inv-loop2 μ-loop2) → let b = start p .args .t1 in p .before .loop2 .gone ≡ setOf (b .warps) (exits b)
+gone-is p = let b = start p .args .t1 in subst (λ (m : ℕ). p .before .loop2 .gone ≡ setOf m (exits b)) (at-end p) (p .before .loop2 .inv .2)
+
+all-but-requires : tie.Need-all-but-requires Inv-loop μ-loop Inv-loop2 μ-loop2
+all-but-requires p κs = (few (p .before .before .before .before), rw (gone-is p) (setOf-lt _ _))
+
+rows-agree-requires : tie.Need-rows-agree-requires Inv-loop μ-loop Inv-loop2 μ-loop2
+rows-agree-requires c κs = search needs
+
+-- and the others have not
+alive : (c : tie.After-all-but Inv-loop μ-loop Inv-loop2 μ-loop2) → c .all-but .result ≡ liveOf (start (c .before) .args .t1)
+alive c =
+    let p = c .before in
+    left-live (start p .args .t1) (c .all-but .result) (p .before .loop2 .gone) (few (p .before .before .before .before)) (gone-is p) (c .all-but .ensures)
 
 -- the block is sound exactly when the rows agree
-agrees : (c : tie.After-rows-agree Inv-loop μ-loop Inv-loop2 μ-loop2) → c .rows-agree .result .all ≡ soundBlock (start (c .before .before) .args .t1)
+agrees : (c : tie.After-rows-agree Inv-loop μ-loop Inv-loop2 μ-loop2) → c .rows-agree .result .all ≡ soundBlock (start (c .before .before .before) .args .t1)
 agrees c =
-    let p = c .before .before in
+    let a = c .before .before in
+    let p = a .before in
     let h = p .before in
     let b = start p .args .t1 in
     (λ i. c .rows-agree .ensures i .all)
     ∙ rows-decide
     b
-    (h .loop2 .alive)
+    (a .all-but .result)
     (h .loop2 .here)
     (not-false (warpsCounted b) (h .before .before .before .if1 .left))
     (all-warps b (all-spare (h .before)) (subst (λ (m : ℕ). all m (λ v. waitsPlaced (warpAt b v .status)) ≡ true) (at-end p) (h .loop2 .inv .1)))
-    (alive p)
+    (alive a)
     (all-agreeing b (h .loop2 .here) (all-spare (h .before)) (subst (λ (m : ℕ). Gathered m (h .loop2 .here) b) (at-end p) (h .loop2 .inv .3)))
 
 unsound-requires-4 : tie.Need-unsound-requires-4 Inv-loop μ-loop Inv-loop2 μ-loop2
@@ -280,7 +286,7 @@ unsound-requires-4 c κs = search needs
 returns-4 : tie.Need-returns-4 Inv-loop μ-loop Inv-loop2 μ-loop2
 returns-4 c =
     let g = c .before .before .before in
-    let a = start (g .before .before) .args in
+    let a = start (g .before .before .before) .args in
     not-sound (a .t1) (a .own) (a .named) (c .unsound4 .ensures) (sym (not-true _ (c .before .if4 .taken)) ∙ agrees g)
 
 mul-warp : tie.Need-mul-warp Inv-loop μ-loop Inv-loop2 μ-loop2
@@ -293,18 +299,18 @@ fresh-warp-requires : tie.Need-fresh-warp-requires Inv-loop μ-loop Inv-loop2 μ
 fresh-warp-requires c κs = search needs
 
 -- the row that was read is the warp's
-warp-is : (j : tie.Joined5 Inv-loop μ-loop Inv-loop2 μ-loop2) → let a = start (j .before .before .before .before .before) .args in j .if5 .warp ≡ warpAt (a .t1) (a .own)
+warp-is : (j : tie.Joined5 Inv-loop μ-loop Inv-loop2 μ-loop2) → let a = start (j .before .before .before .before .before .before) .args in j .if5 .warp ≡ warpAt (a .t1) (a .own)
 warp-is j =
-    let z = start (j .before .before .before .before .before) in
+    let z = start (j .before .before .before .before .before .before) in
     ⊎-elim (λ t. t .2) (λ t. t .2 ∙ t .1 .ensures ∙ past (z .args .t1 .rows) freshWarp 32 (z .args .own) (simp length-map at (z .good .0 .1 .1 .1 .0 .1 .0 .1)) (t .0 .left)) (j .if5 .came)
 
 returns-5 : tie.Need-returns-5 Inv-loop μ-loop Inv-loop2 μ-loop2
 returns-5 c =
     let j = c .before in
     let g = j .before .before .before in
-    let p = g .before .before in
-    let a = start p .args in
-    is-sound (a .t1) (a .own) (a .named) (seen (a .t1) (a .own) (a .named) (alive p) (warp-is j) (λ i. g .rows-agree .ensures i .row)) (sym (not-false _ (j .before .if4 .left)) ∙ agrees g)
+    let l = g .before .before in
+    let a = start (l .before) .args in
+    is-sound (a .t1) (a .own) (a .named) (seen (a .t1) (a .own) (a .named) (alive l) (warp-is j) (λ i. g .rows-agree .ensures i .row)) (sym (not-false _ (j .before .if4 .left)) ∙ agrees g)
 
 pub survey-of-spec : {M : Type 1} → statement M
 survey-of-spec =
@@ -330,11 +336,6 @@ survey-of-spec =
     cast-row-2
     mul-row-2
     element-copy-out-row-2
-    is-live-requires
-    cast-alive
-    cast-alive-2
-    shl-alive
-    add-alive
     enum-told
     enum-known-s
     unsound-requires-3
@@ -347,9 +348,13 @@ survey-of-spec =
     add-here
     array-write-here
     enum-told-2
+    cast-gone
+    shl-gone
+    add-gone
     add-w
     loop2-less
     loop2-again
+    all-but-requires
     rows-agree-requires
     unsound-requires-4
     returns-4
