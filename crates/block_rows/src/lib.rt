@@ -1,10 +1,15 @@
 // One row of a block stored where the block lies: a warp's status, a barrier's row.
 use block::Barrier;
+use block::MOST_WARPS;
 use block::Status;
 use block::Warp;
 ghost use mathlib.Core.Path.{_≡_};
-ghost use lib.ListN.{set};
+ghost use mathlib.Core.Bool.{_&&_};
+ghost use lib.Dec.{eqb};
+ghost use lib.ListN.{getD, set};
+ghost use Rattle.block.specs.Tables.{isReady, freshWarp, idle};
 ghost use Rattle.barriers.specs.Changes.{withStatus};
+ghost use Rattle.block_rows.specs.Rows.{allSpare};
 
 // A warp's row with another status.
 fn with_status(row: Warp, s: Status) -> Warp
@@ -34,4 +39,48 @@ pub fn put_barrier(barriers: &mut [Barrier], i: usize, row: Barrier)
         return;
     }
     barriers[i] = row;
+}
+
+// A copy of warp i's row, and past the last of a ready warp's with result 0.
+pub fn warp_at(rows: &[Warp], i: usize) -> Warp
+    ensures { λ r. ⌜ r ≡ getD (now (rows .entry)) i freshWarp ⌝ }
+{
+    if rows.len() <= i {
+        return block::fresh_warp();
+    }
+    rows[i]
+}
+
+// A copy of barrier i's row, and past the last of an idle one.
+pub fn barrier_at(barriers: &[Barrier], i: usize) -> Barrier
+    ensures { λ r. ⌜ r ≡ getD (now (barriers .entry)) i idle ⌝ }
+{
+    if barriers.len() <= i {
+        return block::idle_row();
+    }
+    barriers[i]
+}
+
+// Whether the row is ready with result 0.
+fn is_fresh(row: Warp) -> bool
+    ensures { λ r. ⌜ r ≡ isReady (row .status) && eqb (row .result) 0 ⌝ }
+{
+    block::is_ready(row) & (row.result == 0)
+}
+
+// Whether there are 32 rows and those from n on are ready with result 0; the first that is not ends the check.
+pub fn spare_fresh(rows: &[Warp], n: u8) -> bool
+    ensures { λ r. ⌜ r ≡ allSpare n (now (rows .entry)) ⌝ }
+{
+    if rows.len() != MOST_WARPS as usize {
+        return false;
+    }
+    let mut w: u8 = n;
+    while w < MOST_WARPS {
+        if !is_fresh(rows[w as usize]) {
+            return false;
+        }
+        w += 1;
+    }
+    true
 }

@@ -1,13 +1,17 @@
 -- What a step decides, and what it leaves of the block that it was decided on.
 -- Assumes nothing.
 use mathlib.Core.Path.{_≡_}
+use mathlib.Core.Bool.{Bool, _&&_}
+use mathlib.Core.List.{List}
 use Prim.Native.Nat.{ℕ}
+use Rattle.steps.specs.declared.Step.{Step}
 use Rattle.steps.specs.declared.Op.{Op}
 use Rattle.steps.specs.declared.Op.the-variants.{Exit, Barrier, Object, PendingCount}
 use Rattle.object.specs.declared.Object as object
 use Rattle.object.specs.declared.Answer.{Answer}
 use Rattle.object.specs.declared.Answer.the-variants as answer
-use Rattle.block.specs.Tables.{barrierCount}
+use Rattle.block.specs.Tables.{barrierCount, soundBlock}
+use Rattle.block.specs.declared.Barrier as block
 use Rattle.block.specs.declared.Block.{Block}
 use Rattle.block.specs.declared.Verdict.the-variants.{Refused, Accepted}
 use Rattle.barriers.specs.declared.Moved.{Moved}
@@ -15,7 +19,10 @@ use Rattle.barriers.specs.Steps.{warpRefusal}
 use Rattle.barriers.specs.Changes.{changed, noChange}
 use Rattle.block_laws.specs.Sound.{Shaped}
 use Rattle.tables.specs.declared.Taken.{Taken}
+use Rattle.soundness.specs.declared.Survey.{Survey}
+use Rattle.soundness.specs.Seen.{surveyOf}
 use Rattle.tables.specs.Parts.{ifReady}
+use Rattle.tables.specs.Effect.{taken}
 use Rattle.decisions.specs.declared.Decided.{Decided}
 
 -- what is left of block b: the change is made in it
@@ -45,3 +52,8 @@ barrierOf Exit = barrierCount
 barrierOf (Barrier k b) = k
 barrierOf (Object a o) = barrierCount
 barrierOf (PendingCount t) = barrierCount
+
+-- of every block that is seen so, and has these barriers: what is left is what the whole step leaves
+abbrev pub Decides : Survey → List block.Barrier → Bool → object.Object → Step → Decided → Type 0
+Decides whole barriers fine o s d =
+    (b : Block) → Shaped b → whole ≡ surveyOf b (s .warp) (barrierOf (s .op)) → barriers ≡ b .barriers → leftOf b d ≡ taken (record { sound = soundBlock b && fine; block = b; object = o }) s

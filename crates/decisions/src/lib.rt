@@ -2,20 +2,18 @@
 use barriers::Change;
 use barriers::Moved;
 use block::BARRIER_COUNT;
-use block::Block;
+use block::Barrier;
 use block::Verdict;
 use object::Answer;
 use object::Count;
 use object::Object;
+use soundness::Survey;
 use steps::ObjectStep;
 use steps::Op;
 use steps::Step;
 ghost use mathlib.Core.Path.{_≡_};
-ghost use mathlib.Core.Bool.{_&&_};
-ghost use Rattle.block.specs.Tables.{soundBlock};
 ghost use Rattle.tables.specs.Parts.{objectTaken, pendingTaken};
-ghost use Rattle.tables.specs.Effect.{taken};
-ghost use Rattle.decisions.specs.Decides.{leftOf, refusing, inBlock, answering, IfReady, barrierOf};
+ghost use Rattle.decisions.specs.Decides.{refusing, inBlock, answering, IfReady, barrierOf, Decides};
 
 // What a step decides: its verdict, what it changes in the block, and the row of the object that it names.
 pub struct Decided {
@@ -102,7 +100,7 @@ fn pending(n: u8, row: Object, token: u64) -> Decided
 }
 
 // The barrier that a step names; 16, which there is not, where it names none.
-fn barrier_of(op: Op) -> u8
+pub fn barrier_of(op: Op) -> u8
     ensures { λ r. ⌜ r ≡ barrierOf op ⌝ }
 {
     match op {
@@ -113,23 +111,25 @@ fn barrier_of(op: Op) -> u8
     }
 }
 
-// The whole step, on a block, whether all object rows are fine, and the row of the object that it names: its verdict, the row, and what it changes in the block.
-pub fn decide(b: Block, fine: bool, row: Object, step: Step) -> Decided
-    ensures { λ r. ⌜ leftOf b r ≡ taken (record { sound = soundBlock b && fine; block = b; object = row }) step ⌝ }
+// The whole step, on what it sees of a block, the block's barriers, whether all object rows are fine, and the row of the object that it names: its verdict, the row, and what it changes in the block.
+pub fn decide(
+    whole: Survey,
+    barriers: [Barrier; BARRIER_COUNT as usize],
+    fine: bool,
+    row: Object,
+    step: Step,
+) -> Decided
+    ensures { λ r. ⌜ Decides whole barriers fine row step r ⌝ }
 {
     let w = step.warp;
     let op = step.op;
-    let whole = soundness::survey_of(b, w, barrier_of(op));
     if !(whole.sound & fine) {
         return refuse(row, 3);
     }
     let warp = whole.warp;
     let barrier = whole.barrier;
     match op {
-        Op::Exit => {
-            let barriers = b.barriers;
-            in_block(exits::exit(whole.warps, whole.live, warp, barriers, w), row)
-        }
+        Op::Exit => in_block(exits::exit(whole.warps, whole.live, warp, barriers, w), row),
         Op::Barrier(k, s) => in_block(
             arrivals::arrival(
                 whole.warps,

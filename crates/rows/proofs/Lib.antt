@@ -1,2 +1,3 @@
 pub mod Walk
+pub mod Lend2
 pub mod Lend

@@ -70,13 +70,13 @@ ready-waits Ready k e = refl
 ready-waits (Waiting at) k e = absurd (false≢true e)
 ready-waits Exited k e = refl
 
-module _ (b : Block) (here : List ℕ) (spare : FreshTo b mostWarps) (so : Gathered (b .warps) here b) where
+module _ (b : Block) (here : List ℕ) (spare : FreshTo b mostWarps) (so : (k : ℕ) → k < barrierCount → getD here k 0 ≡ waiters (b .warps) b k) where
   abbrev n : ℕ
   n = b .warps
 
   -- no row past the number of warps waits, so the sets have all that do
   has-waiters : (k w : ℕ) → k < barrierCount → w < mostWarps → has (getD here k 0) w ≡ waitsAt (warpAt b w .status) k
-  has-waiters k w l m = rw (so .1 k l) (go (ltb w n) refl)
+  has-waiters k w l m = rw (so k l) (go (ltb w n) refl)
     where
       go : (t : Bool) → ltb w n ≡ t → has (waiters n b k) w ≡ waitsAt (warpAt b w .status) k
       go true e = has-setOf _ n w (ltb-true w n e)

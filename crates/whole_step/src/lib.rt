@@ -78,7 +78,10 @@ fn changed(b: Block, c: Change) -> Block
 pub fn take(b: Block, fine: bool, row: Object, step: Step) -> Taken
     ensures { λ r. ⌜ r ≡ taken (record { sound = soundBlock b && fine; block = b; object = row }) step ⌝ }
 {
-    let d = decisions::decide(b, fine, row, step);
+    let op = step.op;
+    let whole = soundness::survey_of(b, step.warp, decisions::barrier_of(op));
+    let barriers = b.barriers;
+    let d = decisions::decide(whole, barriers, fine, row, step);
     let verdict = d.verdict;
     let change = d.change;
     let block = changed(b, change);

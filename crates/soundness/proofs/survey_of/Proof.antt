@@ -278,7 +278,7 @@ agrees c =
     (not-false (warpsCounted b) (h .before .before .before .if1 .left))
     (all-warps b (all-spare (h .before)) (subst (λ (m : ℕ). all m (λ v. waitsPlaced (warpAt b v .status)) ≡ true) (at-end p) (h .loop2 .inv .1)))
     (alive a)
-    (all-agreeing b (h .loop2 .here) (all-spare (h .before)) (subst (λ (m : ℕ). Gathered m (h .loop2 .here) b) (at-end p) (h .loop2 .inv .3)))
+    (all-agreeing b (h .loop2 .here) (all-spare (h .before)) (subst (λ (m : ℕ). Gathered m (h .loop2 .here) b) (at-end p) (h .loop2 .inv .3) .1))
 
 unsound-requires-4 : tie.Need-unsound-requires-4 Inv-loop μ-loop Inv-loop2 μ-loop2
 unsound-requires-4 c κs = search needs

@@ -1,9 +1,19 @@
-use mathlib.Core.Path.{ap, _∙_}
+use mathlib.Core.Path.{refl, ap, _∙_}
+use Prim.Native.Nat.{ℕ}
+use lib.ListN.{length-map}
 use borrow.Author.Needs.{needs}
 use Rattle.block.specs.declared.Block.{Block}
+use Rattle.block_laws.specs.Sound.{Shaped}
+use Rattle.soundness.specs.Seen.{surveyOf}
 use Rattle.tables.specs.declared.Taken.{Taken}
 use Rattle.whole_step.proofs.take.Statement.{statement}
 use Rattle.whole_step.proofs.take.Tie as tie
+
+barrier-of-requires : tie.Need-barrier-of-requires
+barrier-of-requires c κs = search needs
+
+survey-of-requires : tie.Need-survey-of-requires
+survey-of-requires c κs = search needs
 
 decide-requires : tie.Need-decide-requires
 decide-requires c κs = search needs
@@ -11,10 +21,20 @@ decide-requires c κs = search needs
 changed-requires : tie.Need-changed-requires
 changed-requires c κs = search needs
 
+-- the block has 32 warp rows and sixteen barrier rows
+shape : (s : tie.Start) → Shaped (s .args .b)
+shape s = record { rows = simp length-map at (s .good .0 .1 .1 .1 .0 .1 .0 .1); barriers = simp length-map at (s .good .0 .1 .1 .1 .1 .0 .1 .0 .1) }
+
 returns : tie.Need-returns
 returns c =
-    let d = c .before .before .before .decide in
-    ap {B = Taken} (λ (x : Block). record { verdict = d .result .verdict; block = x; object = d .result .object }) (c .before .changed .ensures) ∙ d .ensures
+    let d = c .before .before .before in
+    let v = d .before .before in
+    let s = v .before .before in
+    let b = s .args .b in
+    let seen = v .survey-of .ensures ∙ ap (λ (k : ℕ). surveyOf b (s .args .step .warp) k) (v .before .barrier-of .ensures) in
+    ap {B = Taken} (λ (x : Block). record { verdict = d .decide .result .verdict; block = x; object = d .decide .result .object }) (c .before .changed .ensures) ∙ d .decide .ensures b (shape s) seen refl
 
 pub take-spec : {M : Type 1} → statement M
-take-spec = tie.close (tie.spec decide-requires changed-requires returns)
+take-spec =
+    tie.close
+    (tie.spec barrier-of-requires survey-of-requires decide-requires changed-requires returns)
