@@ -14,7 +14,7 @@ pub struct Agreed {
 }
 
 // Whether barrier row r and the warps that wait there agree about warp w: both sets have it or neither does.
-fn agree(r: Barrier, here: u32, w: u8) -> bool
+pub fn agree(r: Barrier, here: u32, w: u8) -> bool
     ensures { λ t. ⌜ t ≡ Bool·beq (has (r .waiting) w) (has here w) ⌝ }
 {
     sets::has(r.waiting, w) == sets::has(here, w)

@@ -1,5 +1,7 @@
 // The block: its warps and its sixteen named barriers, by value, and what one row of a warp says.
 ghost use mathlib.Core.Path.{_≡_};
+ghost use mathlib.Core.Bool.{_&&_};
+ghost use lib.Dec.{eqb};
 ghost use Rattle.block.specs.Tables.{formNumber, isReady, freshWarp, idle, freshBlock};
 
 // A block has at most 32 warps.
@@ -136,4 +138,11 @@ pub fn is_ready(row: Warp) -> bool
         Status::Waiting(_) => false,
         Status::Exited => false,
     }
+}
+
+// Whether the warp is ready with result 0, as the rows past the number of warps must be.
+pub fn is_fresh(row: Warp) -> bool
+    ensures { λ r. ⌜ r ≡ isReady (row .status) && eqb (row .result) 0 ⌝ }
+{
+    is_ready(row) & (row.result == 0)
 }

@@ -4,10 +4,8 @@ use block::MOST_WARPS;
 use block::Status;
 use block::Warp;
 ghost use mathlib.Core.Path.{_≡_};
-ghost use mathlib.Core.Bool.{_&&_};
-ghost use lib.Dec.{eqb};
 ghost use lib.ListN.{getD, set};
-ghost use Rattle.block.specs.Tables.{isReady, freshWarp, idle};
+ghost use Rattle.block.specs.Tables.{freshWarp, idle};
 ghost use Rattle.barriers.specs.Changes.{withStatus};
 ghost use Rattle.block_rows.specs.Rows.{allSpare};
 
@@ -61,13 +59,6 @@ pub fn barrier_at(barriers: &[Barrier], i: usize) -> Barrier
     barriers[i]
 }
 
-// Whether the row is ready with result 0.
-fn is_fresh(row: Warp) -> bool
-    ensures { λ r. ⌜ r ≡ isReady (row .status) && eqb (row .result) 0 ⌝ }
-{
-    block::is_ready(row) & (row.result == 0)
-}
-
 // Whether there are 32 rows and those from n on are ready with result 0; the first that is not ends the check.
 pub fn spare_fresh(rows: &[Warp], n: u8) -> bool
     ensures { λ r. ⌜ r ≡ allSpare n (now (rows .entry)) ⌝ }
@@ -77,7 +68,7 @@ pub fn spare_fresh(rows: &[Warp], n: u8) -> bool
     }
     let mut w: u8 = n;
     while w < MOST_WARPS {
-        if !is_fresh(rows[w as usize]) {
+        if !block::is_fresh(rows[w as usize]) {
             return false;
         }
         w += 1;

@@ -1,33 +1,33 @@
--- What a step decides, and what it leaves of the block that it was decided on.
+-- What a step decides on what it sees of a block, and what that leaves of the block.
 -- Assumes nothing.
 use mathlib.Core.Path.{_≡_}
-use mathlib.Core.Bool.{Bool, _&&_}
+use mathlib.Core.Bool.{Bool, false, not, cond, _&&_}
 use mathlib.Core.List.{List}
-use Prim.Native.Nat.{ℕ}
+use Prim.Native.Nat.{ℕ, _/_}
+use lib.Dec.{eqb}
+use Rattle.steps.specs.declared.ObjectStep.{ObjectStep}
 use Rattle.steps.specs.declared.Step.{Step}
 use Rattle.steps.specs.declared.Op.{Op}
 use Rattle.steps.specs.declared.Op.the-variants.{Exit, Barrier, Object, PendingCount}
 use Rattle.object.specs.declared.Object as object
 use Rattle.object.specs.declared.Answer.{Answer}
 use Rattle.object.specs.declared.Answer.the-variants as answer
+use Rattle.object.specs.Tokens.{tooLarge, pendingIn}
+use Rattle.object.specs.Row.{stepRow}
 use Rattle.block.specs.Tables.{barrierCount, soundBlock}
 use Rattle.block.specs.declared.Barrier as block
 use Rattle.block.specs.declared.Block.{Block}
 use Rattle.block.specs.declared.Verdict.the-variants.{Refused, Accepted}
 use Rattle.barriers.specs.declared.Moved.{Moved}
-use Rattle.barriers.specs.Steps.{warpRefusal}
-use Rattle.barriers.specs.Changes.{changed, noChange}
+use Rattle.barriers.specs.Steps.{warpLine}
+use Rattle.barriers.specs.Changes.{changed, noChange, arrivalMoved, exitMoved}
 use Rattle.block_laws.specs.Sound.{Shaped}
 use Rattle.tables.specs.declared.Taken.{Taken}
 use Rattle.soundness.specs.declared.Survey.{Survey}
 use Rattle.soundness.specs.Seen.{surveyOf}
-use Rattle.tables.specs.Parts.{ifReady}
+use Rattle.tables.specs.Refusals.{callOf, actOf, offPlace}
 use Rattle.tables.specs.Effect.{taken}
 use Rattle.decisions.specs.declared.Decided.{Decided}
-
--- what is left of block b: the change is made in it
-abbrev pub leftOf : Block → Decided → Taken
-leftOf b d = record { verdict = d .verdict; block = changed b (d .change); object = d .object }
 
 -- a refusal, which changes neither the block nor the row
 abbrev pub refusing : object.Object → ℕ → Decided
@@ -42,9 +42,34 @@ abbrev pub answering : object.Object → Answer → Decided
 answering o (answer.Refused n) = refusing o n
 answering o (answer.Accepted next value done) = record { verdict = Accepted value done 0; change = noChange; object = next }
 
--- of every block in which n is the line of warp w, and 0 if it has none: what is left is what x says, where the warp is ready
-abbrev pub IfReady : ℕ → object.Object → Decided → (Block → Taken) → Type 0
-IfReady n o d x = (b : Block) (w : ℕ) → Shaped b → n ≡ warpRefusal b w → leftOf b d ≡ ifReady b o w (x b)
+-- the refusal of number n, and where n is 0 what is decided else
+abbrev pub unless : ℕ → object.Object → Decided → Decided
+unless n o d = cond (eqb n 0) d (refusing o n)
+
+-- an object step at address a, of a warp whose line is n, or 0 if it has none
+unfoldable pub objectDecided : ℕ → object.Object → ℕ → ObjectStep → Decided
+objectDecided n o a x = unless n o (cond (offPlace a) (refusing o 11) (answering o (stepRow o (a / 8) (actOf x))))
+
+-- a pending count, of a warp whose line is n, or 0 if it has none
+unfoldable pub pendingDecided : ℕ → object.Object → ℕ → Decided
+pendingDecided n o t = unless n o (cond (tooLarge t) (refusing o 19) (record { verdict = Accepted (pendingIn t) false 0; change = noChange; object = o }))
+
+-- the step of warp w in sound tables, where the block is seen so and rs are the rows of its barriers
+abbrev pub soundDecided : Survey → List block.Barrier → object.Object → ℕ → Op → Decided
+soundDecided v rs o w Exit = inBlock (exitMoved (v .warps) (v .live) (v .warp) rs w) o
+soundDecided v rs o w (Barrier k b) = inBlock (arrivalMoved (v .warps) (v .live) (v .warp) (v .barrier) w k (callOf b)) o
+soundDecided v rs o w (Object a x) = objectDecided (warpLine (v .warps) (v .warp) w) o a x
+soundDecided v rs o w (PendingCount t) = pendingDecided (warpLine (v .warps) (v .warp) w) o t
+
+-- a step, on what it sees of a block, the rows of the block's barriers, whether all object rows are fine, and the row of the object that it names: line 3, or by its kind
+unfoldable pub decidedOn : Survey → List block.Barrier → Bool → object.Object → Step → Decided
+decidedOn v rs fine o s = cond (not (v .sound && fine)) (refusing o 3) (soundDecided v rs o (s .warp) (s .op))
+
+-- ---- what is left of a block
+
+-- what is left of block b: the change is made in it
+abbrev pub leftOf : Block → Decided → Taken
+leftOf b d = record { verdict = d .verdict; block = changed b (d .change); object = d .object }
 
 -- the barrier that a step names; 16, which there is not, where it names none
 abbrev pub barrierOf : Op → ℕ
@@ -53,7 +78,8 @@ barrierOf (Barrier k b) = k
 barrierOf (Object a o) = barrierCount
 barrierOf (PendingCount t) = barrierCount
 
--- of every block that is seen so, and has these barriers: what is left is what the whole step leaves
-abbrev pub Decides : Survey → List block.Barrier → Bool → object.Object → Step → Decided → Type 0
-Decides whole barriers fine o s d =
-    (b : Block) → Shaped b → whole ≡ surveyOf b (s .warp) (barrierOf (s .op)) → barriers ≡ b .barriers → leftOf b d ≡ taken (record { sound = soundBlock b && fine; block = b; object = o }) s
+-- of every block of 32 warp rows and sixteen barrier rows: what is decided on what is seen of it leaves what the whole step leaves
+abbrev pub DecisionSeen : Type 0
+DecisionSeen =
+    (b : Block) → Shaped b → (fine : Bool) (o : object.Object) (s : Step)
+    → leftOf b (decidedOn (surveyOf b (s .warp) (barrierOf (s .op))) (b .barriers) fine o s) ≡ taken (record { sound = soundBlock b && fine; block = b; object = o }) s

@@ -12,8 +12,7 @@ use steps::ObjectStep;
 use steps::Op;
 use steps::Step;
 ghost use mathlib.Core.Path.{_≡_};
-ghost use Rattle.tables.specs.Parts.{objectTaken, pendingTaken};
-ghost use Rattle.decisions.specs.Decides.{refusing, inBlock, answering, IfReady, barrierOf, Decides};
+ghost use Rattle.decisions.specs.Decides.{refusing, inBlock, answering, objectDecided, pendingDecided, barrierOf, decidedOn};
 
 // What a step decides: its verdict, what it changes in the block, and the row of the object that it names.
 pub struct Decided {
@@ -67,7 +66,7 @@ fn answer(row: Object, a: Answer) -> Decided
 
 // An object step at address a, of a warp whose line is n, or 0 if it has none.
 fn on_object(n: u8, row: Object, a: u16, o: ObjectStep) -> Decided
-    ensures { λ r. ⌜ IfReady n row r (λ b. objectTaken b row a o) ⌝ }
+    ensures { λ r. ⌜ r ≡ objectDecided n row a o ⌝ }
 {
     if n != 0 {
         return refuse(row, n);
@@ -80,7 +79,7 @@ fn on_object(n: u8, row: Object, a: u16, o: ObjectStep) -> Decided
 
 // A pending count, of a warp whose line is n, or 0 if it has none.
 fn pending(n: u8, row: Object, token: u64) -> Decided
-    ensures { λ r. ⌜ IfReady n row r (λ b. pendingTaken b row token) ⌝ }
+    ensures { λ r. ⌜ r ≡ pendingDecided n row token ⌝ }
 {
     if n != 0 {
         return refuse(row, n);
@@ -111,7 +110,7 @@ pub fn barrier_of(op: Op) -> u8
     }
 }
 
-// The whole step, on what it sees of a block, the block's barriers, whether all object rows are fine, and the row of the object that it names: its verdict, the row, and what it changes in the block.
+// The whole step, on what it sees of a block, the block's barriers, whether all object rows are fine, and the row of the object that it names: its verdict, the row, and what it changes in the block. That is line 3 unless block and rows are sound, and else what the step's kind decides; of a block that is seen so it leaves what the step over whole tables leaves (`decision-seen`).
 pub fn decide(
     whole: Survey,
     barriers: [Barrier; BARRIER_COUNT as usize],
@@ -119,7 +118,7 @@ pub fn decide(
     row: Object,
     step: Step,
 ) -> Decided
-    ensures { λ r. ⌜ Decides whole barriers fine row step r ⌝ }
+    ensures { λ r. ⌜ r ≡ decidedOn whole barriers fine row step ⌝ }
 {
     let w = step.warp;
     let op = step.op;

@@ -1,6 +1,6 @@
 -- Laws of the digits: how many a number takes, and that they may be stored from the last on.
 -- Assumes nothing.
-use mathlib.Core.Path.{_≡_, refl, ap, _∙_}
+use mathlib.Core.Path.{_≡_, refl, sym, ap, _∙_}
 use mathlib.Core.Bool.{Bool, true, false, cond}
 use mathlib.Core.List.{List, [], _∷_, _++_}
 use Prim.Native.Nat.{ℕ, zero, suc, _+_, _-_, _/_, _%_, _^_, _≤_, _<_}
@@ -9,7 +9,9 @@ use native.Mathlib.Nat.{add-zero}
 use lib.Dec.{ltb}
 use lib.ListN.{length, set, length-append}
 use lib.Seq.{sets, set-comm}
+use borrow.Author.Tests.{lt-ltb}
 use Rattle.folds.specs.Folds.{first}
+use Rattle.folds.proofs.Folds.{first-found}
 use Rattle.io.specs.Digits.{digits, glyph}
 use Rattle.digits.specs.Digits.{places, decimal, warps}
 
@@ -25,6 +27,11 @@ first-most p (suc n) = either (ltb (first n p) n) (p n) (first n p) n (first-mos
     either true b f n h = omega arith
     either false true f n h = omega arith
     either false false f n h = omega arith
+
+-- among none there is none
+first-of-none : (p : ℕ → Bool) → first 0 p ≡ 0
+unfolding first
+first-of-none p = refl
 
 -- ---- digits
 
@@ -47,6 +54,10 @@ digit-stored out l at zero b rest h e = absurd (omega arith)
 digit-stored out l at (suc j) b rest h e =
     let one : suc j - 1 ≡ j = omega arith in
     rw one (sets-last out at (at + j) (digits b j (rest / b)) (glyph (rest % b)) (rw (length-digits b j (rest / b))) ∙ e)
+
+-- a number below ten takes one digit
+pub one-place : (n : ℕ) → n < 10 → 1 ≡ places n
+one-place n less = sym (ap (λ (k : ℕ). 1 + k) (first-found (λ k. ltb n (10 ^ (k + 1))) 0 19 (omega arith) (first-of-none (λ k. ltb n (10 ^ (k + 1)))) (lt-ltb n 10 less)))
 
 -- as many digits as it takes are a number's decimal text
 pub spelled : (n k : ℕ) → k ≡ places n → digits 10 k n ≡ decimal n

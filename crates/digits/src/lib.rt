@@ -67,10 +67,14 @@ fn places_of(n: u64) -> usize
     if n < power { 19 } else { 20 }
 }
 
-// Lays a number in decimal from at on, where it fits, and else nothing; answers how many digits it has.
+// Lays a number in decimal from at on, where it fits, and else nothing; answers how many digits it has. Most values have one, which is laid without counting.
 pub fn put_decimal(out: &mut [u8], at: usize, n: u64) -> usize
     ensures { λ r. ⌜ (r ≡ length (decimal n)) × (now (out .exit) ≡ laid (now (out .entry)) at (decimal n)) ⌝ }
 {
+    if n < 10 {
+        spell(&mut *out, at, 1, 10, n);
+        return 1;
+    }
     let k = places_of(n);
     spell(&mut *out, at, k, 10, n);
     k

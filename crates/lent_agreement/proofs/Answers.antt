@@ -86,6 +86,16 @@ module _ (n live : ℕ) (rows : List Barrier) (here : List ℕ) where
   last-row len enough t end =
       every-row n live rows here len enough (all-end (soundAt n live rows) barrierCount (t .k) (t .within) end (t .sound)) (all-end (rowAlike rows here) barrierCount (t .k) (t .within) end (t .alike))
 
+-- what the code says after the loops: whether the last row is behind; and so where they were left before it, and where they went to the end
+abbrev pub atEnd : ℕ → Bool
+atEnd k = eqb k barrierCount
+
+pub short-of : (k : ℕ) → k < barrierCount → atEnd k ≡ false
+short-of k less = ne-eqb k barrierCount (λ e. omega (arith, e))
+
+pub all-behind : (k : ℕ) → k ≤ barrierCount → barrierCount ≤ k → atEnd k ≡ true
+all-behind k within end = eq-eqb k barrierCount (omega arith)
+
 -- a test that did not fail
 pub holds : (y : Bool) → T (not (not y)) → y ≡ true
 holds y h = not-false y (is-false (not y) h)

@@ -8,7 +8,7 @@ use soundness::Survey;
 ghost use mathlib.Core.Path.{_≡_};
 ghost use lib.ListN.{getD, replicate};
 ghost use Rattle.block.specs.Tables.{barrierCount};
-ghost use Rattle.soundness.specs.Seen.{nothingSeen, surveyOf};
+ghost use Rattle.soundness.specs.Seen.{surveyOf};
 ghost use Rattle.lent_survey.specs.Lent.{sets, restOf, seenOf};
 
 // A set for each barrier, and one for those that have exited.
@@ -37,27 +37,12 @@ fn not_exited(here: &[u32], n: u8) -> u32
     ALL_WARPS - gone
 }
 
-// Of a block that is not sound nothing is seen.
-fn unsound() -> Survey
-    ensures { λ r. ⌜ r ≡ nothingSeen ⌝ }
-{
-    let warp = block::fresh_warp();
-    let barrier = block::idle_row();
-    Survey {
-        sound: false,
-        warps: 0,
-        live: 0,
-        warp,
-        barrier,
-    }
-}
-
 // What is seen of a block of n warps whose rows are all fine: nothing, if it has no warp or too many.
 fn seen(n: u8, live: u32, warp: Warp, barrier: Barrier) -> Survey
     ensures { λ r. ⌜ r ≡ seenOf n live warp barrier ⌝ }
 {
     if !((1 <= n) & (n <= MOST_WARPS)) {
-        return unsound();
+        return soundness::unsound();
     }
     Survey {
         sound: true,
@@ -74,16 +59,16 @@ pub fn survey_of(b: &mut Block, own: u8, named: u8) -> Survey
 {
     let n = b.warps;
     if !block_rows::spare_fresh(&b.rows, n) {
-        return unsound();
+        return soundness::unsound();
     }
     let mut here = no_sets();
     if !gathering::gather(&b.rows, &mut here, n) {
-        return unsound();
+        return soundness::unsound();
     }
     let warp = block_rows::warp_at(&b.rows, own as usize);
     let live = not_exited(&here, n);
     if !lent_agreement::rows_agree(&b.barriers, &here, n, live) {
-        return unsound();
+        return soundness::unsound();
     }
     let barrier = block_rows::barrier_at(&b.barriers, named as usize);
     seen(n, live, warp, barrier)

@@ -29,7 +29,3 @@ seen b w k e f g = λ i. record { sound = true; warps = b .warps; live = e i; wa
 -- where they are, all
 pub is-sound : (b : Block) (w k : ℕ) {r : Survey} → r ≡ allSeen b w k → true ≡ soundBlock b → r ≡ surveyOf b w k
 is-sound b w k e holds = e ∙ (λ i. cond (holds i) (allSeen b w k) nothingSeen)
-
--- and then what it says is so
-pub sees-all : (b : Block) (w k : ℕ) → soundBlock b ≡ true → surveyOf b w k ≡ allSeen b w k
-sees-all b w k holds = λ i. cond (holds i) (allSeen b w k) nothingSeen

@@ -6,10 +6,8 @@ use block::MOST_WARPS;
 use block::Status;
 use block::Warp;
 ghost use mathlib.Core.Path.{_≡_};
-ghost use mathlib.Core.Bool.{_&&_};
 ghost use Prim.Native.Nat.{_+_, _^_, _≤_, _<_};
-ghost use lib.Dec.{eqb};
-ghost use Rattle.block.specs.Tables.{isReady, soundBlock};
+ghost use Rattle.block.specs.Tables.{soundBlock};
 ghost use Rattle.soundness.specs.Seen.{nothingSeen, surveyOf};
 
 // The set of all 32 warps.
@@ -24,15 +22,8 @@ pub struct Survey {
     pub barrier: Barrier,
 }
 
-// Whether the warp is ready with result 0, as the rows past the number of warps must be.
-fn is_fresh(row: Warp) -> bool
-    ensures { λ r. ⌜ r ≡ isReady (row .status) && eqb (row .result) 0 ⌝ }
-{
-    block::is_ready(row) & (row.result == 0)
-}
-
 // Of a block that is not sound nothing is seen.
-fn unsound() -> Survey
+pub fn unsound() -> Survey
     ensures { λ r. ⌜ r ≡ nothingSeen ⌝ }
 {
     let warp = block::fresh_warp();
@@ -68,7 +59,7 @@ pub fn survey_of(b: Block, own: u8, named: u8) -> Survey
     let mut spare = n;
     while spare < MOST_WARPS {
         let row = b.rows[spare as usize];
-        if !is_fresh(row) {
+        if !block::is_fresh(row) {
             return unsound();
         }
         spare += 1;

@@ -1,43 +1,26 @@
--- The kinds one by one: what the places say is what the rows say.
+-- The kinds one by one: which there are, and that reading keeps a kind and its fields.
 -- Assumes nothing.
 use mathlib.Core.Path.{_≡_, refl, ap}
 use mathlib.Core.List.{List, []}
-use Prim.Native.Nat.{ℕ, zero, suc, _<_}
-use native.Mathlib.Nat.{add-assoc}
+use Prim.Native.Nat.{ℕ, _<_}
 use native.Mathlib.Decide.{decLt}
 use native.Mathlib.Omega.{arith}
-use lib.ListN.{length, drop, getD, List·getD-eq-default}
-use lib.Seq.{drop-drop}
-use Rattle.fields.specs.Num.{num}
+use lib.ListN.{length, List·getD-eq-default}
 use Rattle.fields.specs.Row.{decode, total}
 use Rattle.folds.proofs.Cases.{cases, _&_}
-use Rattle.steps.specs.declared.Places.{Places}
-use Rattle.steps.specs.declared.Op.the-variants.{Exit}
-use Rattle.steps.specs.Step.{opOf, rows, row, lengthOf, stepOf, kindOf, valuesOf}
-use Rattle.steps.specs.Places.{placesAt, opFrom}
+use Rattle.steps.specs.Step.{rows, row, lengthOf, stepOf, kindOf, valuesOf}
 
-pub exit-below : (k : ℕ) (p : Places) → k < 2 → Exit ≡ opFrom k p
-exit-below zero p h = refl
-exit-below (suc zero) p h = refl
-exit-below (suc (suc k)) p h = absurd (omega arith)
-
-pub by-places : (s : List ℕ) (at k : ℕ) → k < 20 → opFrom k (placesAt s at) ≡ opOf k (decode (row k) (drop at s))
-by-places s at =
-    cases (λ k. opFrom k (placesAt s at) ≡ opOf k (decode (row k) (drop at s))) 20
-    (refl & refl & (simp (drop-drop, add-assoc)) & (simp (drop-drop, add-assoc)) & (simp (drop-drop, add-assoc)) & (simp (drop-drop, add-assoc)) & (simp (drop-drop, add-assoc)) & (simp (drop-drop, add-assoc)) & (simp (drop-drop, add-assoc)) & (simp (drop-drop, add-assoc)) & (simp (drop-drop, add-assoc)) & (simp (drop-drop, add-assoc)) & (simp (drop-drop, add-assoc)) & (simp (drop-drop, add-assoc)) & (simp (drop-drop, add-assoc)) & (simp (drop-drop, add-assoc)) & (simp (drop-drop, add-assoc)) & (simp (drop-drop, add-assoc)) & (simp (drop-drop, add-assoc)) & (simp (drop-drop, add-assoc)) & tt)
-
--- a kind with a length is one of the rows
-pub known : (k : ℕ) → 0 < lengthOf k → k < 20
-known k h = go (decLt k 20)
+-- a kind past the rows has none
+pub in-rows : (k : ℕ) → (row k ≡ [] → ⊥) → k < 20
+in-rows k ne = go (decLt k 20)
   where
     go : Dec (k < 20) → k < 20
     go (yes l) = l
-    go (no g) = absurd (omega (arith, ap total (List·getD-eq-default rows [] {n = k} (omega arith))))
+    go (no g) = absurd (ne (List·getD-eq-default rows [] {n = k} (omega arith)))
 
-pub warp-first : (s : List ℕ) (k : ℕ) → k < 20 → 0 < lengthOf k → num 1 s ≡ getD (decode (row k) s) 0 0
-warp-first s =
-    cases (λ k. 0 < lengthOf k → num 1 s ≡ getD (decode (row k) s) 0 0) 20
-    ((λ h. absurd (omega arith)) & (λ h. refl) & (λ h. refl) & (λ h. refl) & (λ h. refl) & (λ h. refl) & (λ h. refl) & (λ h. refl) & (λ h. refl) & (λ h. refl) & (λ h. refl) & (λ h. refl) & (λ h. refl) & (λ h. refl) & (λ h. refl) & (λ h. refl) & (λ h. refl) & (λ h. refl) & (λ h. refl) & (λ h. refl) & tt)
+-- a kind with a length is one of the rows
+pub known : (k : ℕ) → 0 < lengthOf k → k < 20
+known k h = in-rows k (λ e. omega (arith, ap total e))
 
 pub five : (k : ℕ) → k < 20 → length (row k) ≡ 5
 five =

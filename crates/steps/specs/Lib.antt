@@ -1,3 +1,3 @@
 pub mod Step
-pub mod Places
+pub mod Fields
 pub mod Laws

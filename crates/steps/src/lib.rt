@@ -1,10 +1,12 @@
 // A step, its bytes read, and the table of body lengths; what writing it promises is stated here too.
 ghost use mathlib.Core.Path.{_≡_};
-ghost use Prim.Native.Nat.{_+_, _<_};
+ghost use mathlib.Core.List.{List, [], _∷_};
+ghost use Prim.Native.Nat.{ℕ, _+_, _<_};
 ghost use Rattle.fields.specs.Row.{decode};
 ghost use lib.ListN.{drop};
+ghost use Rattle.steps.specs.declared.Op.the-variants.{Barrier, Object};
 ghost use Rattle.steps.specs.Step.{lengthOf, row, stepOf, readAt};
-ghost use Rattle.steps.specs.Places.{placesAt, opFrom};
+ghost use Rattle.steps.specs.Fields.{width, opWith};
 
 pub mod lengths;
 
@@ -71,82 +73,73 @@ pub enum Wrote {
     Refused(u8),
 }
 
-// Each place after the warp at which some kind has a field, read at that field's width: two3 is the number of two bytes at place 3.
-struct Places {
-    one1: u8,
-    two1: u16,
-    eight1: u64,
-    one2: u8,
-    two2: u16,
-    one3: u8,
-    two3: u16,
-    four3: u32,
-    eight3: u64,
-    four5: u32,
-}
-
-// What stands at the places of a body that starts at at.
-fn places_at(s: &[u8], at: usize) -> Places
-    requires { ⌜ at + 5 < 18446744073709551616 ⌝ }
-    ensures { λ r. ⌜ r ≡ placesAt (now (s .entry)) at ⌝ }
-{
-    let a = at + 1;
-    let b = at + 2;
-    let c = at + 3;
-    let d = at + 5;
-    Places {
-        one1: widths::one(s, a),
-        two1: widths::two(s, a),
-        eight1: widths::eight(s, a),
-        one2: widths::one(s, b),
-        two2: widths::two(s, b),
-        one3: widths::one(s, c),
-        two3: widths::two(s, c),
-        four3: widths::four(s, c),
-        eight3: widths::eight(s, c),
-        four5: widths::four(s, d),
-    }
-}
-
-// What a known kind makes of them.
-fn op_of(kind: u8, p: Places) -> Op
-    requires { ⌜ kind < 20 ⌝ }
-    ensures { λ r. ⌜ r ≡ opFrom kind p ⌝ }
+// A barrier step of a kind that has a barrier. Its fields behind the barrier stand from at on.
+fn barrier_step(kind: u8, s: &[u8], at: usize) -> BarrierStep
+    requires { ⌜ (width kind 1 ≡ 1) × (at + 3 < 18446744073709551616) ⌝ }
+    ensures { λ r. ⌜ ((w x : ℕ) → Barrier x r ≡ opWith kind (w ∷ x ∷ []) (drop at (now (s .entry)))) ⌝ }
 {
     match kind {
-        2 => Op::Barrier(p.one1, BarrierStep::SyncAll),
-        3 => Op::Barrier(p.one1, BarrierStep::Sync(p.two2)),
-        4 => Op::Barrier(p.one1, BarrierStep::Arrive(p.two2)),
-        5 => Op::Barrier(
-            p.one1,
-            BarrierStep::RedAll {
-                selector: p.one2,
-                mask: p.four3,
-            },
-        ),
-        6 => Op::Barrier(
-            p.one1,
-            BarrierStep::Red {
-                selector: p.one2,
-                threads: p.two3,
-                mask: p.four5,
-            },
-        ),
-        7 => Op::Object(p.two1, ObjectStep::Init(p.four3)),
-        8 => Op::Object(p.two1, ObjectStep::Inval),
-        9 => Op::Object(p.two1, ObjectStep::Arrive(p.four3)),
-        10 => Op::Object(p.two1, ObjectStep::ArriveNoComplete(p.four3)),
-        11 => Op::Object(p.two1, ObjectStep::ArriveExpect(p.four3)),
-        12 => Op::Object(p.two1, ObjectStep::Drop(p.four3)),
-        13 => Op::Object(p.two1, ObjectStep::DropExpect(p.four3)),
-        14 => Op::Object(p.two1, ObjectStep::Expect(p.four3)),
-        15 => Op::Object(p.two1, ObjectStep::Complete(p.four3)),
-        16 => Op::Object(p.two1, ObjectStep::TestToken(p.eight3)),
-        17 => Op::Object(p.two1, ObjectStep::TestParity(p.one3)),
-        18 => Op::PendingCount(p.eight1),
-        19 => Op::Object(p.two1, ObjectStep::DropNoComplete(p.four3)),
-        _ => Op::Exit,
+        2 => BarrierStep::SyncAll,
+        3 => BarrierStep::Sync(widths::two(s, at)),
+        4 => BarrierStep::Arrive(widths::two(s, at)),
+        5 => BarrierStep::RedAll {
+            selector: widths::one(s, at),
+            mask: widths::four(s, at + 1),
+        },
+        _ => BarrierStep::Red {
+            selector: widths::one(s, at),
+            threads: widths::two(s, at + 1),
+            mask: widths::four(s, at + 3),
+        },
     }
+}
+
+// An object step of a kind whose field behind the address is a number of four bytes.
+fn counted(kind: u8, n: u32) -> ObjectStep
+    requires { ⌜ width kind 2 ≡ 4 ⌝ }
+    ensures { λ r. ⌜ ((w x : ℕ) (l : List ℕ) → Object x r ≡ opWith kind (w ∷ x ∷ n ∷ []) l) ⌝ }
+{
+    match kind {
+        7 => ObjectStep::Init(n),
+        9 => ObjectStep::Arrive(n),
+        10 => ObjectStep::ArriveNoComplete(n),
+        11 => ObjectStep::ArriveExpect(n),
+        12 => ObjectStep::Drop(n),
+        13 => ObjectStep::DropExpect(n),
+        14 => ObjectStep::Expect(n),
+        15 => ObjectStep::Complete(n),
+        _ => ObjectStep::DropNoComplete(n),
+    }
+}
+
+// An object step of a kind that has an address. Its field behind the address, if it has one, stands at at.
+fn object_step(kind: u8, s: &[u8], at: usize) -> ObjectStep
+    requires { ⌜ width kind 1 ≡ 2 ⌝ }
+    ensures { λ r. ⌜ ((w x : ℕ) → Object x r ≡ opWith kind (w ∷ x ∷ []) (drop at (now (s .entry)))) ⌝ }
+{
+    match kind {
+        8 => ObjectStep::Inval,
+        16 => ObjectStep::TestToken(widths::eight(s, at)),
+        17 => ObjectStep::TestParity(widths::one(s, at)),
+        _ => counted(kind, widths::four(s, at)),
+    }
+}
+
+// What a known kind says. Its fields behind the warp stand from at on, and no others are read: each read costs time at every step.
+fn op_at(kind: u8, s: &[u8], at: usize) -> Op
+    requires { ⌜ (0 < lengthOf kind) × (at + 4 < 18446744073709551616) ⌝ }
+    ensures { λ r. ⌜ ((w : ℕ) → r ≡ opWith kind (w ∷ []) (drop at (now (s .entry)))) ⌝ }
+{
+    if kind == 1 {
+        return Op::Exit;
+    }
+    if kind <= 6 {
+        return Op::Barrier(widths::one(s, at), barrier_step(kind, s, at + 1));
+    }
+    if kind == 18 {
+        return Op::PendingCount(widths::eight(s, at));
+    }
+    Op::Object(widths::two(s, at), object_step(kind, s, at + 2))
 }
 
 // The step of a known kind whose body starts at at.
@@ -156,7 +149,7 @@ fn step_at(kind: u8, s: &[u8], at: usize) -> Step
 {
     Step {
         warp: widths::one(s, at),
-        op: op_of(kind, places_at(s, at)),
+        op: op_at(kind, s, at + 1),
     }
 }
 

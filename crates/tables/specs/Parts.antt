@@ -1,4 +1,4 @@
--- The parts of a step over a block and one object row: what the step's own functions promise each other.
+-- The parts of a step over a block and one object row, each kind's own.
 -- Assumes nothing.
 use mathlib.Core.Bool.{false, cond}
 use Prim.Native.Nat.{ℕ, _/_}

@@ -1,7 +1,7 @@
 -- `all_rows::row_sound` meets its contract: a walk of its MIR, by hand. The borrow is looked into once, each test reads its fields from there, and the borrow is shut at each of the five returns.
 -- Assumes nothing.
 use mathlib.Core.Path.{_≡_, refl}
-use mathlib.Core.Bool.{Bool, true, false, not, _&&_, _||_}
+use mathlib.Core.Bool.{Bool, true, false, not, _&&_, _||_, and-assoc}
 use Prim.Native.Nat.{ℕ, _<_, _^_}
 use native.Mathlib.Omega.{arith}
 use mathlib.Core.List.{List, [], _∷_}
@@ -27,7 +27,7 @@ use sound.WpLaws.{FmC, fmOf}
 use denote.RattleType.{owns}
 use denote.Laws.{Is, shows}
 use denote.Memory.{partAt, pointee}
-use denote.Plain.{Boolean, bool-tells, bool-makes}
+use denote.Plain.{Boolean, bool-tells, bool-makes, uint-makes}
 use denote.Signed.{sint-makes}
 use denote.Ref.{RefT, ShrRef, ptr-vals, shr-tells}
 use denote.Signature.{plain}
@@ -42,7 +42,7 @@ use denote.Triple.Walked.{says, Stays, stay-none-ref, walkOf, Walks, ends-at, wa
 use denote.Exit.{yes}
 use borrow.Author.Tests.{ltb-true, ltb-false, eqb-true, eqb-false, lt-leb, le-leb}
 use Rattle.object.specs.declared.Object.{Object}
-use Rattle.object.specs.Row.{most, lastPhase, outside, badInit}
+use Rattle.object.specs.Row.{most, lastPhase, isZero, outside, badInit}
 use Rattle.object.specs.Soundness.{Widths, expectedSound, pendingSound, seenSound, soundRow}
 use Rattle.object.proofs.Signed.{zero-bits}
 use Rattle.object.proofs.Object as O
@@ -52,6 +52,10 @@ use Rattle.object.proofs.row_outside.Symbol as row-outside-def
 use Rattle.object.proofs.row_outside.Symbol.{name as #object·row-outside}
 use Rattle.object.proofs.row_outside.Met as row-outside-thm
 use Rattle.rows.proofs.Walk.{is-false, big-lit, calls-exact, forks, gone1, concluded, over}
+use Rattle.all_rows.proofs.unseen_start as unseen-start
+use Rattle.all_rows.proofs.unseen_start.Symbol as unseen-start-def
+use Rattle.all_rows.proofs.unseen_start.Symbol.{name as #all-rows·unseen-start}
+use Rattle.all_rows.proofs.unseen_start.Met as unseen-start-thm
 use Rattle.all_rows.proofs.row_sound.Key.{name as #all-rows·row-sound}
 use Rattle.all_rows.proofs.row_sound as row-sound
 use Rattle.all_rows.proofs.row_sound.Statement as stated
@@ -60,9 +64,17 @@ use Rattle.all_rows.proofs.row_sound.Code as code
 abbrev stayed : Stays (row-sound.ended .signature .params) (row-sound.ended .kept)
 stayed = (stay-none-ref (0 ∷ []) tt (plain (λ _. O.the-row)) yes, tt)
 
--- the contract that the proof cites
-abbrev RowOutside : {M : Type 1} (𝓤 : URA M) (H : Heap 𝓤) (A : Atoms 𝓤) (mem : Memory → SProp 𝓤) (run : Routine → Fun 𝓤) → Contract 𝓤
-RowOutside 𝓤 H A mem run = tripleOf 𝓤 H A row-outside.signature (row-outside.spec 𝓤 H A mem run)
+-- the contracts that the proof cites
+module _ {M : Type 1} (𝓤 : URA M) (H : Heap 𝓤) (A : Atoms 𝓤) (mem : Memory → SProp 𝓤) (run : Routine → Fun 𝓤) where
+  abbrev RowOutside : Contract 𝓤
+  RowOutside = tripleOf 𝓤 H A row-outside.signature (row-outside.spec 𝓤 H A mem run)
+
+  abbrev UnseenStart : Contract 𝓤
+  UnseenStart = tripleOf 𝓤 H A unseen-start.signature (unseen-start.spec 𝓤 H A mem run)
+
+record Known {M : Type 1} (𝓤 : URA M) (H : Heap 𝓤) (A : Atoms 𝓤) (mem : Memory → SProp 𝓤) (run : Routine → Fun 𝓤) (C : Calls 𝓤 H) : Type 2 where
+  outside : Triple 𝓤 (C #object·row-outside) (RowOutside 𝓤 H A mem run)
+  start : Triple 𝓤 (C #all-rows·unseen-start) (UnseenStart 𝓤 H A mem run)
 
 -- ---- the five answers
 
@@ -113,10 +125,10 @@ module _ (o : Object) (live : T (o .live)) where
 
 -- what the code says of a dead row: the bits of the transaction count are 0 exactly where the count is
 abbrev zeros : Object → Bool
-zeros o = eqb (o .expected) 0 && eqb (o .pending) 0 && eqb (ofZ w32 (o .tx)) 0 && eqb (o .phase) 0 && not (o .seen)
+zeros o = eqb (o .expected) 0 && eqb (o .pending) 0 && eqb (ofZ w32 (o .tx)) 0 && (eqb (o .phase) 0 && not (o .seen))
 
 dead-row : (o : Object) → mag (o .tx) < 2 ^ 31 → T (not (o .live)) → zeros o ≡ soundRow o
-dead-row o fits dead = rw (is-false (o .live) dead, zero-bits (o .tx) fits)
+dead-row o fits dead = rw (is-false (o .live) dead, zero-bits (o .tx) fits, and-assoc _ (eqb (o .phase) 0) (not (o .seen)))
 
 abbrev int : Ty
 int = tyInt w32
@@ -148,78 +160,79 @@ module _ {M : Type 1} (𝓤 : URA M) (H : Heap 𝓤) (A : Atoms 𝓤) (W : Given
       owned ! Boolean (Is Boolean) (bool-makes 𝓤 H A W) y _ refl $ done !
 
   -- the end of each return: the locals die
-  leaves : {l₀ l₁ l₂ l₃ l₄ l₅ l₆ l₇ l₈ l₉ l₁₀ l₁₁ l₁₂ l₁₃ l₁₄ l₁₅ l₁₆ l₁₇ l₁₈ l₁₉ l₂₀ l₂₁ : ℕ} (y : Bool) → y ≡ soundRow h → Sq W (
+  leaves : {l₀ l₁ l₂ l₃ l₄ l₅ l₆ l₇ l₈ l₉ l₁₀ l₁₁ l₁₂ l₁₃ l₁₄ l₁₅ l₁₆ l₁₇ l₁₈ l₁₉ : ℕ} (y : Bool) → y ≡ soundRow h → Sq W (
       ‵ (flft κ q) ∷ ‵ (fshr-bor κ (λ s. partAt O.the-row s h b o)) ∷ ‵ (fres γ (O.the-row .coded .code h))
-      ∷ ‵ (froom tyBool l₂₁ 0) ∷ ‵ (fdies tyBool l₂₁) ∷ ‵ (froom tyBool l₂₀ 0) ∷ ‵ (fdies tyBool l₂₀) ∷ ‵ (froom tyBool l₁₉ 0) ∷ ‵ (fdies tyBool l₁₉) ∷ ‵ (froom tyBool l₁₈ 0) ∷ ‵ (fdies tyBool l₁₈)
-      ∷ ‵ (froom int l₁₇ 0) ∷ ‵ (fdies int l₁₇) ∷ ‵ (froom tyBool l₁₆ 0) ∷ ‵ (fdies tyBool l₁₆) ∷ ‵ (froom tyBool l₁₅ 0) ∷ ‵ (fdies tyBool l₁₅) ∷ ‵ (froom int l₁₄ 0) ∷ ‵ (fdies int l₁₄)
-      ∷ ‵ (froom tyBool l₁₃ 0) ∷ ‵ (fdies tyBool l₁₃) ∷ ‵ (froom tyBool l₁₂ 0) ∷ ‵ (fdies tyBool l₁₂) ∷ ‵ (froom int l₁₁ 0) ∷ ‵ (fdies int l₁₁) ∷ ‵ (froom int l₁₀ 0) ∷ ‵ (fdies int l₁₀)
-      ∷ ‵ (froom int l₉ 0) ∷ ‵ (fdies int l₉) ∷ ‵ (froom tyBool l₈ 0) ∷ ‵ (fdies tyBool l₈) ∷ ‵ (froom tyBool l₇ 0) ∷ ‵ (fdies tyBool l₇) ∷ ‵ (froom tyBool l₆ 0) ∷ ‵ (fdies tyBool l₆)
-      ∷ ‵ (froom int l₅ 0) ∷ ‵ (fdies int l₅) ∷ ‵ (froom tyBool l₄ 0) ∷ ‵ (fdies tyBool l₄) ∷ ‵ (froom int l₃ 0) ∷ ‵ (fdies int l₃) ∷ ‵ (froom tyBool l₂ 0) ∷ ‵ (fdies tyBool l₂)
+      ∷ ‵ (froom tyBool l₁₉ 0) ∷ ‵ (fdies tyBool l₁₉) ∷ ‵ (froom int l₁₈ 0) ∷ ‵ (fdies int l₁₈) ∷ ‵ (froom tyBool l₁₇ 0) ∷ ‵ (fdies tyBool l₁₇) ∷ ‵ (froom tyBool l₁₆ 0) ∷ ‵ (fdies tyBool l₁₆)
+      ∷ ‵ (froom tyBool l₁₅ 0) ∷ ‵ (fdies tyBool l₁₅) ∷ ‵ (froom int l₁₄ 0) ∷ ‵ (fdies int l₁₄) ∷ ‵ (froom tyBool l₁₃ 0) ∷ ‵ (fdies tyBool l₁₃) ∷ ‵ (froom tyBool l₁₂ 0) ∷ ‵ (fdies tyBool l₁₂)
+      ∷ ‵ (froom int l₁₁ 0) ∷ ‵ (fdies int l₁₁) ∷ ‵ (froom int l₁₀ 0) ∷ ‵ (fdies int l₁₀) ∷ ‵ (froom int l₉ 0) ∷ ‵ (fdies int l₉) ∷ ‵ (froom tyBool l₈ 0) ∷ ‵ (fdies tyBool l₈)
+      ∷ ‵ (froom tyBool l₇ 0) ∷ ‵ (fdies tyBool l₇) ∷ ‵ (froom tyBool l₆ 0) ∷ ‵ (fdies tyBool l₆) ∷ ‵ (froom int l₅ 0) ∷ ‵ (fdies int l₅) ∷ ‵ (froom tyBool l₄ 0) ∷ ‵ (fdies tyBool l₄)
+      ∷ ‵ (froom int l₃ 0) ∷ ‵ (fdies int l₃) ∷ ‵ (froom tyBool l₂ 0) ∷ ‵ (fdies tyBool l₂)
       ∷ ‵ (fat fullShare ref l₁ 0 (vptr b o)) ∷ ‵ (fdies ref l₁) ∷ ‵ (fat fullShare tyBool l₀ 0 (vbool y)) ∷ ‵ (fdies tyBool l₀) ∷ [])
       (frees ((tyBool, l₀) ∷ (ref, l₁) ∷ (tyBool, l₂) ∷ (int, l₃) ∷ (tyBool, l₄) ∷ (int, l₅) ∷ (tyBool, l₆) ∷ (tyBool, l₇) ∷ (tyBool, l₈) ∷ (int, l₉) ∷ (int, l₁₀)
-      ∷ (int, l₁₁) ∷ (tyBool, l₁₂) ∷ (tyBool, l₁₃) ∷ (int, l₁₄) ∷ (tyBool, l₁₅) ∷ (tyBool, l₁₆) ∷ (int, l₁₇) ∷ (tyBool, l₁₈) ∷ (tyBool, l₁₉) ∷ (tyBool, l₂₀) ∷ (tyBool, l₂₁) ∷ []) (prop (Post (vbool y))))
+      ∷ (int, l₁₁) ∷ (tyBool, l₁₂) ∷ (tyBool, l₁₃) ∷ (int, l₁₄) ∷ (tyBool, l₁₅) ∷ (tyBool, l₁₆) ∷ (tyBool, l₁₇) ∷ (int, l₁₈) ∷ (tyBool, l₁₉) ∷ []) (prop (Post (vbool y))))
   leaves y e =
-      move ! (45 ∷ 46 ∷ []) $ gone1 ! $ move ! (43 ∷ 44 ∷ []) $ gone1 ! $ move ! (41 ∷ 42 ∷ []) $ free1 ! $ move ! (39 ∷ 40 ∷ []) $ free1 ! $ move ! (37 ∷ 38 ∷ []) $ free1 ! $ move ! (35 ∷ 36 ∷ []) $ free1 ! $
-      move ! (33 ∷ 34 ∷ []) $ free1 ! $ move ! (31 ∷ 32 ∷ []) $ free1 ! $ move ! (29 ∷ 30 ∷ []) $ free1 ! $ move ! (27 ∷ 28 ∷ []) $ free1 ! $ move ! (25 ∷ 26 ∷ []) $ free1 ! $ move ! (23 ∷ 24 ∷ []) $ free1 ! $
-      move ! (21 ∷ 22 ∷ []) $ free1 ! $ move ! (19 ∷ 20 ∷ []) $ free1 ! $ move ! (17 ∷ 18 ∷ []) $ free1 ! $ move ! (15 ∷ 16 ∷ []) $ free1 ! $ move ! (13 ∷ 14 ∷ []) $ free1 ! $ move ! (11 ∷ 12 ∷ []) $ free1 ! $
-      move ! (9 ∷ 10 ∷ []) $ free1 ! $ move ! (7 ∷ 8 ∷ []) $ free1 ! $ move ! (5 ∷ 6 ∷ []) $ free1 ! $ move ! (3 ∷ 4 ∷ []) $ free1 ! $
+      move ! (41 ∷ 42 ∷ []) $ gone1 ! $ move ! (39 ∷ 40 ∷ []) $ gone1 ! $ move ! (37 ∷ 38 ∷ []) $ free1 ! $ move ! (35 ∷ 36 ∷ []) $ free1 ! $ move ! (33 ∷ 34 ∷ []) $ free1 ! $ move ! (31 ∷ 32 ∷ []) $ free1 ! $
+      move ! (29 ∷ 30 ∷ []) $ free1 ! $ move ! (27 ∷ 28 ∷ []) $ free1 ! $ move ! (25 ∷ 26 ∷ []) $ free1 ! $ move ! (23 ∷ 24 ∷ []) $ free1 ! $ move ! (21 ∷ 22 ∷ []) $ free1 ! $ move ! (19 ∷ 20 ∷ []) $ free1 ! $
+      move ! (17 ∷ 18 ∷ []) $ free1 ! $ move ! (15 ∷ 16 ∷ []) $ free1 ! $ move ! (13 ∷ 14 ∷ []) $ free1 ! $ move ! (11 ∷ 12 ∷ []) $ free1 ! $ move ! (9 ∷ 10 ∷ []) $ free1 ! $ move ! (7 ∷ 8 ∷ []) $ free1 ! $
+      move ! (5 ∷ 6 ∷ []) $ free1 ! $ move ! (3 ∷ 4 ∷ []) $ free1 ! $
       free0 ! $ keep ! (0 ∷ 2 ∷ 1 ∷ []) $ by ! (exits y e)
 
-  module _ (C : Calls 𝓤 H) (Λ : Loops 𝓤 H) (fm : FmC 𝓤 H (W .laws) C) (known : Triple 𝓤 (C #object·row-outside) (RowOutside 𝓤 H A mem run)) where
+  module _ (C : Calls 𝓤 H) (Λ : Loops 𝓤 H) (fm : FmC 𝓤 H (W .laws) C) (known : Known 𝓤 H A mem run C) where
     walk : ent 𝓤 (onEntry 𝓤 H A row-sound.signature (κ, tt) (q, tt) x at) (WpFn 𝓤 H C Λ code.function (vptr b o ∷ []) Post)
     walk =
         qed W ((‵ (flft κ q) ⊛ ‵ ftrue) ∷ ‵ (owns (ShrRef (named 0) κ O.the-row ∷ []) x at) ∷ []) ∵ enter ! C Λ code.function (vptr b o ∷ []) _ $
         alloc1 ! (λ l₀. alloc1 ! (λ l₁. alloc1 ! (λ l₂. alloc1 ! (λ l₃. alloc1 ! (λ l₄. alloc1 ! (λ l₅. alloc1 ! (λ l₆. alloc1 ! (λ l₇. alloc1 ! (λ l₈. alloc1 ! (λ l₉. alloc1 ! (λ l₁₀.
-        alloc1 ! (λ l₁₁. alloc1 ! (λ l₁₂. alloc1 ! (λ l₁₃. alloc1 ! (λ l₁₄. alloc1 ! (λ l₁₅. alloc1 ! (λ l₁₆. alloc1 ! (λ l₁₇. alloc1 ! (λ l₁₈. alloc1 ! (λ l₁₉. alloc1 ! (λ l₂₀. alloc1 ! (λ l₂₁. alloc0 ! $ params1 ! $ pass1 ! (init ! 40 refl (tt, tt)) $ pass0 ! $
-        move ! (45 ∷ []) $ fsplit ! $ fsplit3 ! $ drop ! $ move ! (47 ∷ []) $ split ! $ move ! (3 ∷ 0 ∷ []) $
+        alloc1 ! (λ l₁₁. alloc1 ! (λ l₁₂. alloc1 ! (λ l₁₃. alloc1 ! (λ l₁₄. alloc1 ! (λ l₁₅. alloc1 ! (λ l₁₆. alloc1 ! (λ l₁₇. alloc1 ! (λ l₁₈. alloc1 ! (λ l₁₉. alloc0 ! $ params1 ! $ pass1 ! (init ! 36 refl (tt, tt)) $ pass0 ! $
+        move ! (41 ∷ []) $ fsplit ! $ fsplit3 ! $ drop ! $ move ! (43 ∷ []) $ split ! $ move ! (3 ∷ 0 ∷ []) $
         looks ! tt O.the-row (Is O.the-row) (shows 𝓤 H A O.the-row) (LL.vals O.the-type O′.the-laws) (LL.tells O.the-type O′.the-laws) (LL.copy O.the-type O′.the-copy 𝓤 H A W) h b o (λ q′ vs.
         spelt ! O.the-row (Is O.the-row) (shows 𝓤 H A O.the-row) (LL.vals O.the-type O′.the-laws) (LL.tells O.the-type O′.the-laws) q′ h vs b o $ move ! (1 ∷ []) $ peeks ! O.the-row (Is O.the-row) (shows 𝓤 H A O.the-row) h (mach ∷ []) (λ is. move ! (4 ∷ 6 ∷ []) $ drop ! $ drop ! $ move ! (1 ∷ 0 ∷ []) $
-        -- [a share of the row; what it owns; what shuts the borrow; the fractured borrow; res; _21; …; _20; …; and so on to _0, two places each]; once the borrow is shut, all stand two lower
-        assigns ! (of-opd ! (load ! (from ! (hop ! (look ! 45 refl) (fld ! refl (stop !)))) (look-in ! 0 (sub ! 0 refl (whole !))))) (from ! (stop !)) (init ! 43 refl (tt, tt)) $
-        forks ! (load ! (from ! (stop !)) (look ! 43 refl))
+        -- [a share of the row; what it owns; what shuts the borrow; the fractured borrow; res; _19; …; _18; …; and so on to _0, two places each]; once the borrow is shut, all stand two lower
+        assigns ! (of-opd ! (load ! (from ! (hop ! (look ! 41 refl) (fld ! refl (stop !)))) (look-in ! 0 (sub ! 0 refl (whole !))))) (from ! (stop !)) (init ! 39 refl (tt, tt)) $
+        forks ! (load ! (from ! (stop !)) (look ! 39 refl))
         -- a live row
-        (λ live. assigns ! (of-opd ! (load ! (from ! (hop ! (look ! 45 refl) (fld ! refl (stop !)))) (look-in ! 0 (sub ! 1 refl (whole !))))) (from ! (stop !)) (init ! 41 refl (tt, record { fits = widths is .expected })) $
-        assigns ! (bin ! (load ! (from ! (stop !)) (look ! 41 refl)) (lit ! tt) tt) (from ! (stop !)) (init ! 39 refl (tt, tt)) $
-        assigns ! (of-opd ! (load ! (from ! (hop ! (look ! 45 refl) (fld ! refl (stop !)))) (look-in ! 0 (sub ! 1 refl (whole !))))) (from ! (stop !)) (init ! 37 refl (tt, record { fits = widths is .expected })) $
-        assigns ! (bin ! (big-lit ! (record { fits = lit< tt })) (load ! (from ! (stop !)) (look ! 37 refl)) tt) (from ! (stop !)) (init ! 35 refl (tt, tt)) $
-        assigns ! (bin ! (load ! (from ! (stop !)) (look ! 39 refl)) (load ! (from ! (stop !)) (look ! 35 refl)) tt) (from ! (stop !)) (init ! 33 refl (tt, tt)) $
-        forks ! (load ! (from ! (stop !)) (look ! 33 refl)) (λ bad. assigns ! (of-opd ! (false-lit !)) (from ! (stop !)) (init ! 47 refl (tt, tt)) $
-        shuts ! tt O.the-row q′ h (mach ∷ []) b o $ returns-within ! Post refl (look ! 45 refl) $ forget ! 41 refl $ forget ! 39 refl $ forget ! 37 refl $ forget ! 35 refl $ forget ! 33 refl $ forget ! 31 refl $ leaves false (bad-expected h live bad))
-        (λ range. assigns ! (of-opd ! (load ! (from ! (hop ! (look ! 45 refl) (fld ! refl (stop !)))) (look-in ! 0 (sub ! 1 refl (whole !))))) (from ! (stop !)) (store ! 41 refl (tt, record { fits = widths is .expected })) $
-        assigns ! (of-opd ! (load ! (from ! (hop ! (look ! 45 refl) (fld ! refl (stop !)))) (look-in ! 0 (sub ! 2 refl (whole !))))) (from ! (stop !)) (store ! 37 refl (tt, record { fits = widths is .pending })) $
-        assigns ! (bin ! (load ! (from ! (stop !)) (look ! 41 refl)) (load ! (from ! (stop !)) (look ! 37 refl)) tt) (from ! (stop !)) (store ! 33 refl (tt, tt)) $
-        forks ! (load ! (from ! (stop !)) (look ! 33 refl)) (λ bad. assigns ! (of-opd ! (false-lit !)) (from ! (stop !)) (init ! 47 refl (tt, tt)) $
-        shuts ! tt O.the-row q′ h (mach ∷ []) b o $ returns-within ! Post refl (look ! 45 refl) $ forget ! 41 refl $ forget ! 39 refl $ forget ! 37 refl $ forget ! 35 refl $ forget ! 33 refl $ forget ! 31 refl $ leaves false (bad-pending h live range bad))
-        (λ below. assigns ! (of-opd ! (load ! (from ! (hop ! (look ! 45 refl) (fld ! refl (stop !)))) (look-in ! 0 (sub ! 3 refl (whole !))))) (from ! (stop !)) (init ! 29 refl (tt, ofZ-fits w32 (h .tx) (record { sfits = widths is .tx }))) $
-        calls-exact ! fm (row-outside.signature .params) Boolean (row-outside.ended .kept) (row-outside.clauses 𝓤 H A mem run) known (sint-makes 𝓤 H A W w32, tt) vbool bool-tells
-        (h .tx, tt) (vint w32 (ofZ w32 (h .tx)) ∷ [], tt) ((refl, widths is .tx), tt) tt (id⊢ 𝓤 _) (outside (h .tx)) (λ r e. id⊢ 𝓤 _) (and-then ! (load ! (from ! (stop !)) (look ! 30 refl)) (no-more !)) (λ _.
-        land ! (from ! (stop !)) (init ! 31 refl (tt, tt)) $
-        forks ! (load ! (from ! (stop !)) (look ! 31 refl)) (λ bad. assigns ! (of-opd ! (false-lit !)) (from ! (stop !)) (init ! 47 refl (tt, tt)) $
-        shuts ! tt O.the-row q′ h (mach ∷ []) b o $ returns-within ! Post refl (look ! 45 refl) $ forget ! 41 refl $ forget ! 39 refl $ forget ! 37 refl $ forget ! 35 refl $ forget ! 33 refl $ forget ! 31 refl $ forget ! 29 refl $ forget ! 27 refl $ leaves false (bad-tx h live range below bad))
-        (λ inside. assigns ! (of-opd ! (load ! (from ! (hop ! (look ! 45 refl) (fld ! refl (stop !)))) (look-in ! 0 (sub ! 4 refl (whole !))))) (from ! (stop !)) (store ! 41 refl (tt, record { fits = widths is .phase })) $
-        assigns ! (bin ! (load ! (from ! (stop !)) (look ! 41 refl)) (lit ! tt) tt) (from ! (stop !)) (store ! 35 refl (tt, tt)) $
-        assigns ! (of-opd ! (load ! (from ! (hop ! (look ! 45 refl) (fld ! refl (stop !)))) (look-in ! 0 (sub ! 5 refl (whole !))))) (from ! (stop !)) (store ! 33 refl (tt, tt)) $
-        assigns ! (bin ! (load ! (from ! (stop !)) (look ! 35 refl)) (load ! (from ! (stop !)) (look ! 33 refl)) tt) (from ! (stop !)) (init ! 47 refl (tt, tt)) $
-        shuts ! tt O.the-row q′ h (mach ∷ []) b o $ returns-within ! Post refl (look ! 45 refl) $ forget ! 41 refl $ forget ! 39 refl $ forget ! 37 refl $ forget ! 35 refl $ forget ! 33 refl $ forget ! 31 refl $ forget ! 29 refl $ forget ! 27 refl $ leaves (seenSound h) (live-row h live range below inside (widths is .phase)))))))
+        (λ live. assigns ! (of-opd ! (load ! (from ! (hop ! (look ! 41 refl) (fld ! refl (stop !)))) (look-in ! 0 (sub ! 1 refl (whole !))))) (from ! (stop !)) (init ! 37 refl (tt, record { fits = widths is .expected })) $
+        assigns ! (bin ! (load ! (from ! (stop !)) (look ! 37 refl)) (lit ! tt) tt) (from ! (stop !)) (init ! 35 refl (tt, tt)) $
+        assigns ! (of-opd ! (load ! (from ! (hop ! (look ! 41 refl) (fld ! refl (stop !)))) (look-in ! 0 (sub ! 1 refl (whole !))))) (from ! (stop !)) (init ! 33 refl (tt, record { fits = widths is .expected })) $
+        assigns ! (bin ! (big-lit ! (record { fits = lit< tt })) (load ! (from ! (stop !)) (look ! 33 refl)) tt) (from ! (stop !)) (init ! 31 refl (tt, tt)) $
+        assigns ! (bin ! (load ! (from ! (stop !)) (look ! 35 refl)) (load ! (from ! (stop !)) (look ! 31 refl)) tt) (from ! (stop !)) (init ! 29 refl (tt, tt)) $
+        forks ! (load ! (from ! (stop !)) (look ! 29 refl)) (λ bad. assigns ! (of-opd ! (false-lit !)) (from ! (stop !)) (init ! 43 refl (tt, tt)) $
+        shuts ! tt O.the-row q′ h (mach ∷ []) b o $ returns-within ! Post refl (look ! 41 refl) $ forget ! 37 refl $ forget ! 35 refl $ forget ! 33 refl $ forget ! 31 refl $ forget ! 29 refl $ forget ! 27 refl $ leaves false (bad-expected h live bad))
+        (λ range. assigns ! (of-opd ! (load ! (from ! (hop ! (look ! 41 refl) (fld ! refl (stop !)))) (look-in ! 0 (sub ! 1 refl (whole !))))) (from ! (stop !)) (store ! 37 refl (tt, record { fits = widths is .expected })) $
+        assigns ! (of-opd ! (load ! (from ! (hop ! (look ! 41 refl) (fld ! refl (stop !)))) (look-in ! 0 (sub ! 2 refl (whole !))))) (from ! (stop !)) (store ! 33 refl (tt, record { fits = widths is .pending })) $
+        assigns ! (bin ! (load ! (from ! (stop !)) (look ! 37 refl)) (load ! (from ! (stop !)) (look ! 33 refl)) tt) (from ! (stop !)) (store ! 29 refl (tt, tt)) $
+        forks ! (load ! (from ! (stop !)) (look ! 29 refl)) (λ bad. assigns ! (of-opd ! (false-lit !)) (from ! (stop !)) (init ! 43 refl (tt, tt)) $
+        shuts ! tt O.the-row q′ h (mach ∷ []) b o $ returns-within ! Post refl (look ! 41 refl) $ forget ! 37 refl $ forget ! 35 refl $ forget ! 33 refl $ forget ! 31 refl $ forget ! 29 refl $ forget ! 27 refl $ leaves false (bad-pending h live range bad))
+        (λ below. assigns ! (of-opd ! (load ! (from ! (hop ! (look ! 41 refl) (fld ! refl (stop !)))) (look-in ! 0 (sub ! 3 refl (whole !))))) (from ! (stop !)) (init ! 25 refl (tt, ofZ-fits w32 (h .tx) (record { sfits = widths is .tx }))) $
+        calls-exact ! fm (row-outside.signature .params) Boolean (row-outside.ended .kept) (row-outside.clauses 𝓤 H A mem run) (known .outside) (sint-makes 𝓤 H A W w32, tt) vbool bool-tells
+        (h .tx, tt) (vint w32 (ofZ w32 (h .tx)) ∷ [], tt) ((refl, widths is .tx), tt) tt (id⊢ 𝓤 _) (outside (h .tx)) (λ r e. id⊢ 𝓤 _) (and-then ! (load ! (from ! (stop !)) (look ! 26 refl)) (no-more !)) (λ _.
+        land ! (from ! (stop !)) (init ! 27 refl (tt, tt)) $
+        forks ! (load ! (from ! (stop !)) (look ! 27 refl)) (λ bad. assigns ! (of-opd ! (false-lit !)) (from ! (stop !)) (init ! 43 refl (tt, tt)) $
+        shuts ! tt O.the-row q′ h (mach ∷ []) b o $ returns-within ! Post refl (look ! 41 refl) $ forget ! 37 refl $ forget ! 35 refl $ forget ! 33 refl $ forget ! 31 refl $ forget ! 29 refl $ forget ! 27 refl $ forget ! 25 refl $ forget ! 23 refl $ leaves false (bad-tx h live range below bad))
+        (λ inside. assigns ! (of-opd ! (load ! (from ! (hop ! (look ! 41 refl) (fld ! refl (stop !)))) (look-in ! 0 (sub ! 4 refl (whole !))))) (from ! (stop !)) (store ! 37 refl (tt, record { fits = widths is .phase })) $
+        assigns ! (bin ! (load ! (from ! (stop !)) (look ! 37 refl)) (lit ! tt) tt) (from ! (stop !)) (store ! 31 refl (tt, tt)) $
+        assigns ! (of-opd ! (load ! (from ! (hop ! (look ! 41 refl) (fld ! refl (stop !)))) (look-in ! 0 (sub ! 5 refl (whole !))))) (from ! (stop !)) (store ! 29 refl (tt, tt)) $
+        assigns ! (bin ! (load ! (from ! (stop !)) (look ! 31 refl)) (load ! (from ! (stop !)) (look ! 29 refl)) tt) (from ! (stop !)) (init ! 43 refl (tt, tt)) $
+        shuts ! tt O.the-row q′ h (mach ∷ []) b o $ returns-within ! Post refl (look ! 41 refl) $ forget ! 37 refl $ forget ! 35 refl $ forget ! 33 refl $ forget ! 31 refl $ forget ! 29 refl $ forget ! 27 refl $ forget ! 25 refl $ forget ! 23 refl $ leaves (seenSound h) (live-row h live range below inside (widths is .phase)))))))
         -- a dead one
-        (λ dead. assigns ! (of-opd ! (load ! (from ! (hop ! (look ! 45 refl) (fld ! refl (stop !)))) (look-in ! 0 (sub ! 1 refl (whole !))))) (from ! (stop !)) (init ! 27 refl (tt, record { fits = widths is .expected })) $
-        assigns ! (bin ! (load ! (from ! (stop !)) (look ! 27 refl)) (lit ! tt) tt) (from ! (stop !)) (store ! 43 refl (tt, tt)) $
-        assigns ! (of-opd ! (load ! (from ! (hop ! (look ! 45 refl) (fld ! refl (stop !)))) (look-in ! 0 (sub ! 2 refl (whole !))))) (from ! (stop !)) (init ! 25 refl (tt, record { fits = widths is .pending })) $
-        assigns ! (bin ! (load ! (from ! (stop !)) (look ! 25 refl)) (lit ! tt) tt) (from ! (stop !)) (init ! 23 refl (tt, tt)) $
-        assigns ! (bin ! (load ! (from ! (stop !)) (look ! 43 refl)) (load ! (from ! (stop !)) (look ! 23 refl)) tt) (from ! (stop !)) (init ! 21 refl (tt, tt)) $
-        assigns ! (of-opd ! (load ! (from ! (hop ! (look ! 45 refl) (fld ! refl (stop !)))) (look-in ! 0 (sub ! 3 refl (whole !))))) (from ! (stop !)) (init ! 19 refl (tt, ofZ-fits w32 (h .tx) (record { sfits = widths is .tx }))) $
-        assigns ! (bin ! (load ! (from ! (stop !)) (look ! 19 refl)) (lit ! tt) tt) (from ! (stop !)) (init ! 17 refl (tt, tt)) $
-        assigns ! (bin ! (load ! (from ! (stop !)) (look ! 21 refl)) (load ! (from ! (stop !)) (look ! 17 refl)) tt) (from ! (stop !)) (init ! 15 refl (tt, tt)) $
-        assigns ! (of-opd ! (load ! (from ! (hop ! (look ! 45 refl) (fld ! refl (stop !)))) (look-in ! 0 (sub ! 4 refl (whole !))))) (from ! (stop !)) (init ! 13 refl (tt, record { fits = widths is .phase })) $
-        assigns ! (bin ! (load ! (from ! (stop !)) (look ! 13 refl)) (lit ! tt) tt) (from ! (stop !)) (init ! 11 refl (tt, tt)) $
-        assigns ! (bin ! (load ! (from ! (stop !)) (look ! 15 refl)) (load ! (from ! (stop !)) (look ! 11 refl)) tt) (from ! (stop !)) (init ! 9 refl (tt, tt)) $
-        assigns ! (of-opd ! (load ! (from ! (hop ! (look ! 45 refl) (fld ! refl (stop !)))) (look-in ! 0 (sub ! 5 refl (whole !))))) (from ! (stop !)) (init ! 7 refl (tt, tt)) $
-        assigns ! (un ! (load ! (from ! (stop !)) (look ! 7 refl)) tt) (from ! (stop !)) (init ! 5 refl (tt, tt)) $
-        assigns ! (bin ! (load ! (from ! (stop !)) (look ! 9 refl)) (load ! (from ! (stop !)) (look ! 5 refl)) tt) (from ! (stop !)) (init ! 47 refl (tt, tt)) $
-        shuts ! tt O.the-row q′ h (mach ∷ []) b o $ returns ! (look ! 45 refl) $ forget ! 41 refl $ forget ! 25 refl $ forget ! 23 refl $ forget ! 21 refl $ forget ! 19 refl $ forget ! 17 refl $ forget ! 15 refl $ forget ! 13 refl $ forget ! 11 refl $ forget ! 9 refl $ forget ! 7 refl $ forget ! 5 refl $ forget ! 3 refl $ leaves (zeros h) (dead-row h (widths is .tx) dead))))))))))))))))))))))))))
+        (λ dead. assigns ! (of-opd ! (load ! (from ! (hop ! (look ! 41 refl) (fld ! refl (stop !)))) (look-in ! 0 (sub ! 1 refl (whole !))))) (from ! (stop !)) (init ! 23 refl (tt, record { fits = widths is .expected })) $
+        assigns ! (bin ! (load ! (from ! (stop !)) (look ! 23 refl)) (lit ! tt) tt) (from ! (stop !)) (store ! 39 refl (tt, tt)) $
+        assigns ! (of-opd ! (load ! (from ! (hop ! (look ! 41 refl) (fld ! refl (stop !)))) (look-in ! 0 (sub ! 2 refl (whole !))))) (from ! (stop !)) (init ! 21 refl (tt, record { fits = widths is .pending })) $
+        assigns ! (bin ! (load ! (from ! (stop !)) (look ! 21 refl)) (lit ! tt) tt) (from ! (stop !)) (init ! 19 refl (tt, tt)) $
+        assigns ! (bin ! (load ! (from ! (stop !)) (look ! 39 refl)) (load ! (from ! (stop !)) (look ! 19 refl)) tt) (from ! (stop !)) (init ! 17 refl (tt, tt)) $
+        assigns ! (of-opd ! (load ! (from ! (hop ! (look ! 41 refl) (fld ! refl (stop !)))) (look-in ! 0 (sub ! 3 refl (whole !))))) (from ! (stop !)) (init ! 15 refl (tt, ofZ-fits w32 (h .tx) (record { sfits = widths is .tx }))) $
+        assigns ! (bin ! (load ! (from ! (stop !)) (look ! 15 refl)) (lit ! tt) tt) (from ! (stop !)) (init ! 13 refl (tt, tt)) $
+        assigns ! (bin ! (load ! (from ! (stop !)) (look ! 17 refl)) (load ! (from ! (stop !)) (look ! 13 refl)) tt) (from ! (stop !)) (init ! 11 refl (tt, tt)) $
+        assigns ! (of-opd ! (load ! (from ! (hop ! (look ! 41 refl) (fld ! refl (stop !)))) (look-in ! 0 (sub ! 4 refl (whole !))))) (from ! (stop !)) (init ! 7 refl (tt, record { fits = widths is .phase })) $
+        assigns ! (of-opd ! (load ! (from ! (hop ! (look ! 41 refl) (fld ! refl (stop !)))) (look-in ! 0 (sub ! 5 refl (whole !))))) (from ! (stop !)) (init ! 5 refl (tt, tt)) $
+        calls-exact ! fm (unseen-start.signature .params) Boolean (unseen-start.ended .kept) (unseen-start.clauses 𝓤 H A mem run) (known .start) (uint-makes 𝓤 H A W w32, (bool-makes 𝓤 H A W, tt)) vbool bool-tells
+        (h .phase, (h .seen, tt)) (vint w32 (h .phase) ∷ [], (vbool (h .seen) ∷ [], tt)) ((refl, widths is .phase), (refl, tt)) tt (id⊢ 𝓤 _) (eqb (h .phase) 0 && not (h .seen)) (λ r e. id⊢ 𝓤 _)
+        (and-then ! (load ! (from ! (stop !)) (look ! 8 refl)) (and-then ! (load ! (from ! (stop !)) (look ! 6 refl)) (no-more !))) (λ _.
+        land ! (from ! (stop !)) (init ! 9 refl (tt, tt)) $
+        assigns ! (bin ! (load ! (from ! (stop !)) (look ! 11 refl)) (load ! (from ! (stop !)) (look ! 9 refl)) tt) (from ! (stop !)) (init ! 43 refl (tt, tt)) $
+        shuts ! tt O.the-row q′ h (mach ∷ []) b o $ returns ! (look ! 41 refl) $ forget ! 37 refl $ forget ! 21 refl $ forget ! 19 refl $ forget ! 17 refl $ forget ! 15 refl $ forget ! 13 refl $ forget ! 11 refl $ forget ! 9 refl $ forget ! 7 refl $ forget ! 5 refl $ forget ! 3 refl $ leaves (zeros h) (dead-row h (widths is .tx) dead)))))))))))))))))))))))))
 
 module _ {M : Type 1} (𝓤 : URA M) (H : Heap 𝓤) (A : Atoms 𝓤) (W : Given 𝓤 H A) (mem : Memory → SProp 𝓤) (run : Routine → Fun 𝓤) (𝓣 : Tables 𝓤 H) where
-  row-sound-walks : Triple 𝓤 (𝓣 .C #object·row-outside) (RowOutside 𝓤 H A mem run) → Walks 𝓤 H A row-sound.ended stayed (WpFn 𝓤 H (𝓣 .C) (𝓣 .Λ) code.function) (row-sound.clauses 𝓤 H A mem run)
+  row-sound-walks : Known 𝓤 H A mem run (𝓣 .C) → Walks 𝓤 H A row-sound.ended stayed (WpFn 𝓤 H (𝓣 .C) (𝓣 .Λ) code.function) (row-sound.clauses 𝓤 H A mem run)
   row-sound-walks known = walked 𝓤 H A row-sound.ended stayed (row-sound.clauses 𝓤 H A mem run) (WpFn 𝓤 H (𝓣 .C) (𝓣 .Λ) code.function) (λ κs. (ptr-vals, tt)) (λ κs. (shr-tells (named 0) (κs .0) O.the-row, tt))
       (λ κs qs bounds a g are. via 𝓤 _ (fst∗ 𝓤 _ (emp 𝓤)) (walk 𝓤 H A W mem run (κs .0) (qs .0) (a .0 .ptr .0) (a .0 .ptr .1) (a .0 .name) (a .0 .now) (𝓣 .C) (𝓣 .Λ) (fmOf 𝓤 H (W .laws) 𝓣) known))
 
@@ -228,4 +241,7 @@ unfolding code.routine tablesOf
 row-sound-spec 𝓤 H 𝓜 𝓖 𝓡 =
     concluded 𝓤 H 𝓜 𝓖 𝓡 code.env row-sound.ended stayed (goes-none-ref 𝓤 H (𝓖 .A) (givenOf 𝓤 H 𝓜 𝓖) 1 (0 ∷ []) tt (plain (λ _. O.the-row)) yes, tt) (row-sound.clauses 𝓤 H (𝓖 .A) (𝓜 .mem) (𝓡 .run)) #all-rows·row-sound code.function (code.unfolded 𝓤 H 𝓜 𝓡)
     (row-sound-walks 𝓤 H (𝓖 .A) (givenOf 𝓤 H 𝓜 𝓖) (𝓜 .mem) (𝓡 .run) (over 𝓤 H 𝓜 𝓖 𝓡 code.env)
-    (cited 𝓤 H (RowOutside 𝓤 H (𝓖 .A) (𝓜 .mem) (𝓡 .run)) 𝓜 𝓡 code.env #object·row-outside row-outside-def.routine code.calls-object·row-outside (row-outside-thm.met 𝓤 H 𝓜 𝓖 𝓡)))
+    (record {
+      outside = cited 𝓤 H (RowOutside 𝓤 H (𝓖 .A) (𝓜 .mem) (𝓡 .run)) 𝓜 𝓡 code.env #object·row-outside row-outside-def.routine code.calls-object·row-outside (row-outside-thm.met 𝓤 H 𝓜 𝓖 𝓡);
+      start = cited 𝓤 H (UnseenStart 𝓤 H (𝓖 .A) (𝓜 .mem) (𝓡 .run)) 𝓜 𝓡 code.env #all-rows·unseen-start unseen-start-def.routine code.calls-all-rows·unseen-start (unseen-start-thm.met 𝓤 H 𝓜 𝓖 𝓡);
+    }))

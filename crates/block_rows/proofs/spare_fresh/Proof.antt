@@ -52,10 +52,10 @@ use Rattle.block.proofs.Warp.Laws as R′
 use Rattle.rows.proofs.Walk.{is-false, calls-exact, forks, gone1, concluded, over}
 use Rattle.block_rows.specs.Rows.{allSpare}
 use Rattle.block_rows.proofs.Spare.{isFresh, other-length, used-row, every-row, St, none-yet, one-more}
-use Rattle.block_rows.proofs.is_fresh as is-fresh
-use Rattle.block_rows.proofs.is_fresh.Symbol as is-fresh-def
-use Rattle.block_rows.proofs.is_fresh.Symbol.{name as #block-rows·is-fresh}
-use Rattle.block_rows.proofs.is_fresh.Met as is-fresh-thm
+use Rattle.block.proofs.is_fresh as is-fresh
+use Rattle.block.proofs.is_fresh.Symbol as is-fresh-def
+use Rattle.block.proofs.is_fresh.Symbol.{name as #block·is-fresh}
+use Rattle.block.proofs.is_fresh.Met as is-fresh-thm
 use Rattle.block_rows.proofs.spare_fresh.Key.{name as #block-rows·spare-fresh}
 use Rattle.block_rows.proofs.spare_fresh as spare-fresh
 use Rattle.block_rows.proofs.spare_fresh.Statement as stated
@@ -115,7 +115,7 @@ module _ {M : Type 1} (𝓤 : URA M) (H : Heap 𝓤) (A : Atoms 𝓤) (W : Given
   ≺-wf : WellFounded _≺_
   ≺-wf = InvImage·wf (λ (t : St n ys). mostWarps - t .w) (Nat·lt-wfRel .wf)
 
-  module _ (𝓣 : Tables 𝓤 H) (known : Triple 𝓤 (𝓣 .C #block-rows·is-fresh) (Fresh 𝓤 H A mem run)) where
+  module _ (𝓣 : Tables 𝓤 H) (known : Triple 𝓤 (𝓣 .C #block·is-fresh) (Fresh 𝓤 H A mem run)) where
     module _ (len : length ys ≡ mostWarps) (q′ : Share) (l₀ l₁ l₂ l₃ l₄ l₅ l₆ l₇ l₈ l₉ l₁₀ l₁₁ l₁₂ : ℕ) where
       abbrev En : Env 𝓤 H
       En = (tyBool, l₀) ∷ (rows-in, l₁) ∷ (byte, l₂) ∷ (byte, l₃) ∷ (word, l₄) ∷ (word, l₅) ∷ (tyBool, l₆) ∷ (tyBool, l₇) ∷ (word, l₈) ∷ (word, l₉) ∷ (tyPtr, l₁₀) ∷ (R′.mir, l₁₁) ∷ (tyBool, l₁₂) ∷ []
@@ -234,7 +234,7 @@ module _ {M : Type 1} (𝓤 : URA M) (H : Heap 𝓤) (A : Atoms 𝓤) (W : Given
         around (eqb-true (length ys) mostWarps (not-false (eqb (length ys) mostWarps) (is-false (not (eqb (length ys) mostWarps)) ok))) q′ l₀ l₁ l₂ l₃ l₄ l₅ l₆ l₇ l₈ l₉ l₁₀ l₁₁ l₁₂ (record { w = n; fits = n-fits; past = omega arith; inv = none-yet n ys }))))))))))))))))
 
 module _ {M : Type 1} (𝓤 : URA M) (H : Heap 𝓤) (A : Atoms 𝓤) (W : Given 𝓤 H A) (mem : Memory → SProp 𝓤) (run : Routine → Fun 𝓤) (𝓣 : Tables 𝓤 H) where
-  spare-fresh-walks : Triple 𝓤 (𝓣 .C #block-rows·is-fresh) (Fresh 𝓤 H A mem run) → Walks 𝓤 H A spare-fresh.ended stayed (WpFn 𝓤 H (𝓣 .C) (𝓣 .Λ) code.function) (spare-fresh.clauses 𝓤 H A mem run)
+  spare-fresh-walks : Triple 𝓤 (𝓣 .C #block·is-fresh) (Fresh 𝓤 H A mem run) → Walks 𝓤 H A spare-fresh.ended stayed (WpFn 𝓤 H (𝓣 .C) (𝓣 .Λ) code.function) (spare-fresh.clauses 𝓤 H A mem run)
   spare-fresh-walks known = walked 𝓤 H A spare-fresh.ended stayed (spare-fresh.clauses 𝓤 H A mem run) (WpFn 𝓤 H (𝓣 .C) (𝓣 .Λ) code.function)
       (λ κs. (slice-vals, (uint-vals w8, tt))) (λ κs. (shr-slice-tells (named 0) (κs .0) R.the-row, (uint-tells w8, tt)))
       (λ κs qs bounds a g are. via 𝓤 _ (fst∗ 𝓤 _ (emp 𝓤))
@@ -247,4 +247,4 @@ spare-fresh-spec 𝓤 H 𝓜 𝓖 𝓡 =
     (goes-none-slice 𝓤 H (𝓖 .A) (givenOf 𝓤 H 𝓜 𝓖) 1 (0 ∷ []) tt (plain (λ _. R.the-row)) yes, (goes-none 𝓤 H (𝓖 .A) (givenOf 𝓤 H 𝓜 𝓖) 1 (λ _. u8) yes (λ κs x f. refl), tt))
     (spare-fresh.clauses 𝓤 H (𝓖 .A) (𝓜 .mem) (𝓡 .run)) #block-rows·spare-fresh code.function (code.unfolded 𝓤 H 𝓜 𝓡)
     (spare-fresh-walks 𝓤 H (𝓖 .A) (givenOf 𝓤 H 𝓜 𝓖) (𝓜 .mem) (𝓡 .run) (over 𝓤 H 𝓜 𝓖 𝓡 code.env)
-    (cited 𝓤 H (Fresh 𝓤 H (𝓖 .A) (𝓜 .mem) (𝓡 .run)) 𝓜 𝓡 code.env #block-rows·is-fresh is-fresh-def.routine code.calls-block-rows·is-fresh (is-fresh-thm.met 𝓤 H 𝓜 𝓖 𝓡)))
+    (cited 𝓤 H (Fresh 𝓤 H (𝓖 .A) (𝓜 .mem) (𝓡 .run)) 𝓜 𝓡 code.env #block·is-fresh is-fresh-def.routine code.calls-block·is-fresh (is-fresh-thm.met 𝓤 H 𝓜 𝓖 𝓡)))

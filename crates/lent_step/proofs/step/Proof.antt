@@ -75,7 +75,8 @@ use Rattle.barriers.specs.Changes.{changed}
 use Rattle.barriers.proofs.Change as N
 use Rattle.barriers.proofs.Change.Laws as N′
 use Rattle.decisions.specs.declared.Decided.{Decided}
-use Rattle.decisions.specs.Decides.{leftOf, barrierOf, Decides as DecidesSeen}
+use Rattle.decisions.specs.Decides.{leftOf, barrierOf, decidedOn}
+use Rattle.decisions.proofs.Decides.{decision-seen}
 use Rattle.decisions.proofs.Decided as U
 use Rattle.decisions.proofs.Decided.Laws as U′
 use Rattle.tables.specs.Tables.{viewOf, slotOf, soundObjects, tallied}
@@ -223,6 +224,10 @@ module _ {M : Type 1} (𝓤 : URA M) (H : Heap 𝓤) (A : Atoms 𝓤) (W : Given
   abbrev whole-seen : Survey
   whole-seen = surveyOf d (s .warp) (barrierOf (s .op))
 
+  -- and what it decides
+  abbrev decided-so : Decided
+  decided-so = decidedOn whole-seen (d .barriers) f e s
+
   shape : Is B.the-row d (LL.val B.the-type B′.the-laws d ∷ []) → Shaped d
   shape is = record { rows = simp length-map at (LL.owed B.the-type B′.the-laws d _ is .1 .0 .1 .0 .1); barriers = simp length-map at (LL.owed B.the-type B′.the-laws d _ is .1 .1 .0 .1 .0 .1) }
 
@@ -318,7 +323,7 @@ module _ {M : Type 1} (𝓤 : URA M) (H : Heap 𝓤) (A : Atoms 𝓤) (W : Given
         -- what is decided on it
         calls-saying ! fm (decide.signature .params) U.the-row (decide.ended .kept) (decide.clauses 𝓤 H A at-mem run) (known .decide)
         (LL.makes X.the-type X′.the-plain 𝓤 H A, (array-makes 𝓤 H A W R.the-row (LL.makes R.the-type R′.the-plain 𝓤 H A) 16, (bool-makes 𝓤 H A W, (LL.makes O.the-type O′.the-plain 𝓤 H A, (LL.makes S.the-type S′.the-plain 𝓤 H A, tt))))) (LL.val U.the-type U′.the-laws) (LL.tells U.the-type U′.the-laws)
-        (whole-seen, (d .barriers, (f, (e, (s, tt))))) (mach-survey whole-seen ∷ [], (vbs ∷ [], (vbool f ∷ [], (mach-row e ∷ [], (vs ∷ [], tt))))) (is-whole, (is-bs, (refl, (is-row, (is-s, tt))))) tt (id⊢ 𝓤 _) (DecidesSeen whole-seen (d .barriers) f e s) (λ a _. id⊢ 𝓤 _)
+        (whole-seen, (d .barriers, (f, (e, (s, tt))))) (mach-survey whole-seen ∷ [], (vbs ∷ [], (vbool f ∷ [], (mach-row e ∷ [], (vs ∷ [], tt))))) (is-whole, (is-bs, (refl, (is-row, (is-s, tt))))) tt (id⊢ 𝓤 _) (λ u. u ≡ decided-so) (λ a _. id⊢ 𝓤 _)
         (and-then ! (load ! (from ! (stop !)) (look ! 40 refl)) (and-then ! (load ! (from ! (stop !)) (look ! 42 refl)) (and-then ! (load ! (from ! (stop !)) (look ! 50 refl)) (and-then ! (load ! (from ! (stop !)) (look ! 46 refl)) (and-then ! (load ! (from ! (stop !)) (look ! 52 refl)) (no-more !)))))) (λ u decided is-u.
         land ! (from ! (stop !)) (init ! 37 refl (LL.lawful U.the-type U′.the-laws 𝓤 H A W .typed u _ is-u .0)) $
         -- the row is stored back
@@ -401,7 +406,7 @@ module _ {M : Type 1} (𝓤 : URA M) (H : Heap 𝓤) (A : Atoms 𝓤) (W : Given
         move ! (12 ∷ 13 ∷ []) $
         gone1 ! $
         free0 ! $
-        keep ! (0 ∷ 1 ∷ 2 ∷ 3 ∷ 4 ∷ 5 ∷ 6 ∷ 7 ∷ 8 ∷ []) $ by ! (exits u (decided d (shape is-d) refl refl) (is-verdict u is-u))))))))))))))))))))))))))))))))))))))
+        keep ! (0 ∷ 1 ∷ 2 ∷ 3 ∷ 4 ∷ 5 ∷ 6 ∷ 7 ∷ 8 ∷ []) $ by ! (exits u (ap (leftOf d) decided ∙ decision-seen d (shape is-d) f e s) (is-verdict u is-u))))))))))))))))))))))))))))))))))))))
       where
         is-op : Is P.the-row (s .op) (LE.vals P.the-type P′.the-laws (s .op))
         is-op = LL.owed S.the-type S′.the-laws s _ is-s .1 .0

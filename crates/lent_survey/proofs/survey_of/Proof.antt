@@ -20,7 +20,7 @@ use prog.Wp.{Heap, Calls, Loops, WpFn, Tables}
 use ghost.Atoms.{Atoms}
 use contract.Monad.{Fun}
 use contract.Running.{givenOf, tablesOf}
-use types.Kit.{Given, prop, frees, ‵, some, _⊛_, ⋆, Sq, _$_, _∵_, !, qed, by, move, keep, drop, pick, use1, use2, split, join, rewrite, fsplit, fsplit3, fjoin, fjoin3, feqI, suffices, frame, done}
+use types.Kit.{Given, Item, Goal, Go, Step, step, prop, frees, ‵, some, _⊛_, ⋆, Sq, _$_, _∵_, !, qed, by, move, keep, drop, pick, use1, use2, split, join, rewrite, fsplit, fsplit3, fjoin, fjoin3, feqI, suffices, frame, done}
 use types.Part.{agg, whole, sub, look-in}
 use types.Run.{look, store, init, forget, stop, hop, fld, from, load, lit, of-opd, un, addr, and-then, no-more, assigns, land, returns, returns-within, enter, alloc1, alloc0, params1, pass1, pass0, free1, free0}
 use types.SemTy.{Body}
@@ -100,10 +100,10 @@ use Rattle.lent_survey.proofs.not_exited as not-exited
 use Rattle.lent_survey.proofs.not_exited.Symbol as not-exited-def
 use Rattle.lent_survey.proofs.not_exited.Symbol.{name as #lent-survey·not-exited}
 use Rattle.lent_survey.proofs.not_exited.Met as not-exited-thm
-use Rattle.lent_survey.proofs.unsound as unsound
-use Rattle.lent_survey.proofs.unsound.Symbol as unsound-def
-use Rattle.lent_survey.proofs.unsound.Symbol.{name as #lent-survey·unsound}
-use Rattle.lent_survey.proofs.unsound.Met as unsound-thm
+use Rattle.soundness.proofs.unsound as unsound
+use Rattle.soundness.proofs.unsound.Symbol as unsound-def
+use Rattle.soundness.proofs.unsound.Symbol.{name as #soundness·unsound}
+use Rattle.soundness.proofs.unsound.Met as unsound-thm
 use Rattle.lent_survey.proofs.seen as seen
 use Rattle.lent_survey.proofs.seen.Symbol as seen-def
 use Rattle.lent_survey.proofs.seen.Symbol.{name as #lent-survey·seen}
@@ -155,7 +155,7 @@ module _ {M : Type 1} (𝓤 : URA M) (H : Heap 𝓤) (A : Atoms 𝓤) (at-mem : 
     pub rows-agree : Triple 𝓤 (C #lent-agreement·rows-agree) RowsAgree
     pub no-sets : Triple 𝓤 (C #lent-survey·no-sets) NoSets
     pub not-exited : Triple 𝓤 (C #lent-survey·not-exited) NotExited
-    pub unsound : Triple 𝓤 (C #lent-survey·unsound) Unsound
+    pub unsound : Triple 𝓤 (C #soundness·unsound) Unsound
     pub seen : Triple 𝓤 (C #lent-survey·seen) SeenOf
 
 -- where a block has its parts, and that there is room for them; said here, so that the walk does not measure them
@@ -287,6 +287,20 @@ module _ {M : Type 1} (𝓤 : URA M) (H : Heap 𝓤) (A : Atoms 𝓤) (W : Given
   typed-sets : (zs : List ℕ) → Is Sets zs (mach-sets zs ∷ []) → T (hasTy array (mach-sets zs)) × WT (mach-sets zs)
   typed-sets zs is = array-lawful 𝓤 H A W u32 (uint-lawful 𝓤 H A W w32) 17 .typed zs _ is .0
 
+  -- the warps' rows are put back into the block, and its barriers; the sets' memory is free again
+  module _ {Γ : List (Item 𝓤)} {G : Goal 𝓤 H} where
+    rows-back : Is B.the-row d (mach-block d ∷ []) → Step (Go {0}) W (‵ (partAt B.the-row fullShare d b o) ∷ Γ) G (‵ (row U.the-row fullShare (d .rows) b (o + 4)) ∷ rows-kept 𝓤 H A d b o ∷ Γ) G
+    rows-back is-d = step (λ s. feqI ! ℕ (length (d .rows)) 32 (shape is-d .rows) $ fjoin ! $ use1 W (‵ (partAt Rows fullShare (d .rows) b (o + 4))) (array-whole 𝓤 H A W U.the-row fullShare 32 (d .rows) b (o + 4)) $
+        use2 W (‵ (partAt B.the-row fullShare d b o)) (rows-in 𝓤 H A W d b o (d .rows)) $ s)
+
+    barriers-back : Is B.the-row d (mach-block d ∷ []) → Step (Go {0}) W (‵ (partAt B.the-row fullShare d b o) ∷ Γ) G (‵ (row R.the-row fullShare (d .barriers) b (o + 260)) ∷ barriers-kept 𝓤 H A d b o ∷ Γ) G
+    barriers-back is-d = step (λ s. feqI ! ℕ (length (d .barriers)) 16 (shape is-d .barriers) $ fjoin ! $ use1 W (‵ (partAt Barriers fullShare (d .barriers) b (o + 260))) (array-whole 𝓤 H A W R.the-row fullShare 16 (d .barriers) b (o + 260)) $
+        use2 W (‵ (partAt B.the-row fullShare d b o)) (barriers-in 𝓤 H A W d b o (d .barriers)) $ s)
+
+    sets-gone : {l : ℕ} → Step (Go {0}) W (‵ (froom array l 0) ∷ Γ) G (‵ (row u32 fullShare hs l 0) ∷ Γ) G
+    sets-gone {l} = step (λ s. feqI ! ℕ (length hs) 17 sets-len $ fjoin ! $ use1 W (‵ (partAt Sets fullShare hs l 0)) (array-whole 𝓤 H A W u32 fullShare 17 hs l 0) $
+        use1 W (some (λ (u : Val). ‵ (fat fullShare array l 0 u) ⊛ ‵ (Sets .own hs (u ∷ [])))) (part-out 𝓤 H A W Sets refl fullShare hs l 0) $ pick ! (λ u. split ! $ move ! (1 ∷ []) $ drop ! $ forget ! 0 refl $ s))
+
   abbrev Post : Val → SProp 𝓤
   Post = walkOf 𝓤 H A survey.ended stayed (survey.clauses 𝓤 H A at-mem run) .post (((κ, tt), (q, tt), tt, x, at), tt)
 
@@ -362,15 +376,10 @@ module _ {M : Type 1} (𝓤 : URA M) (H : Heap 𝓤) (A : Atoms 𝓤) (W : Given
         forks ! (load ! (from ! (stop !)) (look ! 39 refl))
         (λ bad. calls-exact ! fm (unsound.signature .params) X.the-row (unsound.ended .kept) (unsound.clauses 𝓤 H A at-mem run) (known .unsound) tt mach-survey (LL.tells X.the-type X′.the-laws) tt tt tt tt (id⊢ 𝓤 _) nothingSeen (λ r e. id⊢ 𝓤 _) (no-more !) (λ is-v.
         land ! (from ! (stop !)) (init ! 63 refl (LL.lawful X.the-type X′.the-laws 𝓤 H A W .typed nothingSeen _ is-v .0)) $
-        feqI ! ℕ (length (d .rows)) 32 ((shape is-d) .rows) $ fjoin ! $ use1 W (‵ (partAt Rows fullShare (d .rows) b (o + 4))) (array-whole 𝓤 H A W U.the-row fullShare 32 (d .rows) b (o + 4)) $
-        use2 W (‵ (partAt B.the-row fullShare d b o)) (rows-in 𝓤 H A W d b o (d .rows)) $
+        rows-back is-d $
         close-ref ! tt (mem B.the-row) d {b = b} {o = o} $
         returns-within ! Post refl (look ! 61 refl) $
-        forget ! 53 refl $
-        forget ! 43 refl $
-        forget ! 41 refl $
-        forget ! 39 refl $
-        forget ! 37 refl $
+        forget ! 53 refl $ forget ! 43 refl $ forget ! 41 refl $ forget ! 39 refl $ forget ! 37 refl $
         leaves nothingSeen (spare-fails d (shape is-d) own named₁ (is-false (allSpare n (d .rows)) bad)) is-v))
         (λ spare.
         -- who waits where, and who has exited
@@ -400,27 +409,15 @@ module _ {M : Type 1} (𝓤 : URA M) (H : Heap 𝓤) (A : Atoms 𝓤) (W : Given
         (λ bad. calls-exact ! fm (unsound.signature .params) X.the-row (unsound.ended .kept) (unsound.clauses 𝓤 H A at-mem run) (known .unsound) tt mach-survey (LL.tells X.the-type X′.the-laws) tt tt tt tt (id⊢ 𝓤 _) nothingSeen (λ r e. id⊢ 𝓤 _) (no-more !) (λ is-v.
         land ! (from ! (stop !)) (init ! 63 refl (LL.lawful X.the-type X′.the-laws 𝓤 H A W .typed nothingSeen _ is-v .0)) $
         move ! (0 ∷ 2 ∷ []) $
-        feqI ! ℕ (length (d .rows)) 32 ((shape is-d) .rows) $ fjoin ! $ use1 W (‵ (partAt Rows fullShare (d .rows) b (o + 4))) (array-whole 𝓤 H A W U.the-row fullShare 32 (d .rows) b (o + 4)) $
-        use2 W (‵ (partAt B.the-row fullShare d b o)) (rows-in 𝓤 H A W d b o (d .rows)) $
+        rows-back is-d $
         move ! (1 ∷ []) $
-        feqI ! ℕ (length hs) 17 sets-len $ fjoin ! $ use1 W (‵ (partAt Sets fullShare hs l₅ 0)) (array-whole 𝓤 H A W u32 fullShare 17 hs l₅ 0) $
-        use1 W (some (λ (u : Val). ‵ (fat fullShare array l₅ 0 u) ⊛ ‵ (Sets .own hs (u ∷ [])))) (part-out 𝓤 H A W Sets refl fullShare hs l₅ 0) $ pick ! (λ u. split ! $ move ! (1 ∷ []) $ drop ! $
-        forget ! 0 refl $
+        sets-gone $
         move ! (1 ∷ 2 ∷ 3 ∷ 4 ∷ []) $
         close-ref ! tt (mem B.the-row) d {b = b} {o = o} $
         returns-within ! Post refl (look ! 61 refl) $
-        forget ! 53 refl $
-        forget ! 44 refl $
-        forget ! 42 refl $
-        forget ! 40 refl $
-        forget ! 38 refl $
-        forget ! 36 refl $
-        forget ! 34 refl $
-        forget ! 32 refl $
-        forget ! 30 refl $
-        forget ! 28 refl $
+        forget ! 53 refl $ forget ! 44 refl $ forget ! 42 refl $ forget ! 40 refl $ forget ! 38 refl $ forget ! 36 refl $ forget ! 34 refl $ forget ! 32 refl $ forget ! 30 refl $ forget ! 28 refl $
         move ! (0 ∷ 1 ∷ 2 ∷ 4 ∷ 5 ∷ 6 ∷ 7 ∷ 8 ∷ 9 ∷ 10 ∷ 11 ∷ 12 ∷ 13 ∷ 14 ∷ 15 ∷ 16 ∷ 17 ∷ 18 ∷ 19 ∷ 20 ∷ 21 ∷ 22 ∷ 23 ∷ 24 ∷ 25 ∷ 26 ∷ 27 ∷ 28 ∷ 29 ∷ 30 ∷ 31 ∷ 32 ∷ 33 ∷ 34 ∷ 35 ∷ 36 ∷ 37 ∷ 38 ∷ 39 ∷ 40 ∷ 41 ∷ 42 ∷ 43 ∷ 44 ∷ 45 ∷ 46 ∷ 47 ∷ 48 ∷ 49 ∷ 50 ∷ 51 ∷ 3 ∷ 52 ∷ 53 ∷ 54 ∷ 55 ∷ 56 ∷ 57 ∷ 58 ∷ 59 ∷ 60 ∷ 61 ∷ 62 ∷ []) $
-        leaves nothingSeen (gather-fails d (shape is-d) own named₁ (is-false (allNoted n (d .rows)) bad)) is-v)))
+        leaves nothingSeen (gather-fails d (shape is-d) own named₁ (is-false (allNoted n (d .rows)) bad)) is-v))
         (λ noted.
         -- the warp's row
         assigns ! (addr ! (from ! (hop ! (look ! 61 refl) (fld ! rows-at (stop !))))) (from ! (stop !)) (init ! 28 refl (tt, tt)) $
@@ -432,8 +429,7 @@ module _ {M : Type 1} (𝓤 : URA M) (H : Heap 𝓤) (A : Atoms 𝓤) (W : Given
         (λ _ _. (and-then ! (load ! (from ! (stop !)) (look ! 27 refl)) (and-then ! (load ! (from ! (stop !)) (look ! 25 refl)) (no-more !)))) (λ is-w.
         land ! (from ! (stop !)) (init ! 52 refl (LL.lawful U.the-type U′.the-laws 𝓤 H A W .typed (warpAt d own) _ is-w .0)) $
         move ! (0 ∷ 2 ∷ []) $
-        feqI ! ℕ (length (d .rows)) 32 ((shape is-d) .rows) $ fjoin ! $ use1 W (‵ (partAt Rows fullShare (d .rows) b (o + 4))) (array-whole 𝓤 H A W U.the-row fullShare 32 (d .rows) b (o + 4)) $
-        use2 W (‵ (partAt B.the-row fullShare d b o)) (rows-in 𝓤 H A W d b o (d .rows)) $
+        rows-back is-d $
         -- who has not exited
         move ! (1 ∷ []) $
         assigns ! (addr ! (from ! (stop !))) (from ! (stop !)) (init ! 21 refl (tt, tt)) $
@@ -467,38 +463,16 @@ module _ {M : Type 1} (𝓤 : URA M) (H : Heap 𝓤) (A : Atoms 𝓤) (W : Given
         (λ bad. calls-exact ! fm (unsound.signature .params) X.the-row (unsound.ended .kept) (unsound.clauses 𝓤 H A at-mem run) (known .unsound) tt mach-survey (LL.tells X.the-type X′.the-laws) tt tt tt tt (id⊢ 𝓤 _) nothingSeen (λ r e. id⊢ 𝓤 _) (no-more !) (λ is-v.
         land ! (from ! (stop !)) (init ! 63 refl (LL.lawful X.the-type X′.the-laws 𝓤 H A W .typed nothingSeen _ is-v .0)) $
         move ! (0 ∷ 2 ∷ []) $
-        feqI ! ℕ (length (d .barriers)) 16 ((shape is-d) .barriers) $ fjoin ! $ use1 W (‵ (partAt Barriers fullShare (d .barriers) b (o + 260))) (array-whole 𝓤 H A W R.the-row fullShare 16 (d .barriers) b (o + 260)) $
-        use2 W (‵ (partAt B.the-row fullShare d b o)) (barriers-in 𝓤 H A W d b o (d .barriers)) $
+        barriers-back is-d $
         move ! (1 ∷ []) $
-        feqI ! ℕ (length hs) 17 sets-len $ fjoin ! $ use1 W (‵ (partAt Sets fullShare hs l₅ 0)) (array-whole 𝓤 H A W u32 fullShare 17 hs l₅ 0) $
-        use1 W (some (λ (u : Val). ‵ (fat fullShare array l₅ 0 u) ⊛ ‵ (Sets .own hs (u ∷ [])))) (part-out 𝓤 H A W Sets refl fullShare hs l₅ 0) $ pick ! (λ u. split ! $ move ! (1 ∷ []) $ drop ! $
-        forget ! 0 refl $
+        sets-gone $
         move ! (1 ∷ 2 ∷ 3 ∷ 4 ∷ []) $
         close-ref ! tt (mem B.the-row) d {b = b} {o = o} $
         returns-within ! Post refl (look ! 61 refl) $
-        forget ! 53 refl $
-        forget ! 50 refl $
-        forget ! 48 refl $
-        forget ! 44 refl $
-        forget ! 42 refl $
-        forget ! 40 refl $
-        forget ! 38 refl $
-        forget ! 36 refl $
-        forget ! 34 refl $
-        forget ! 32 refl $
-        forget ! 30 refl $
-        forget ! 28 refl $
-        forget ! 26 refl $
-        forget ! 24 refl $
-        forget ! 22 refl $
-        forget ! 20 refl $
-        forget ! 18 refl $
-        forget ! 16 refl $
-        forget ! 14 refl $
-        forget ! 12 refl $
-        forget ! 10 refl $
+        forget ! 53 refl $ forget ! 50 refl $ forget ! 48 refl $ forget ! 44 refl $ forget ! 42 refl $ forget ! 40 refl $ forget ! 38 refl $ forget ! 36 refl $ forget ! 34 refl $ forget ! 32 refl $ forget ! 30 refl $ forget ! 28 refl $
+        forget ! 26 refl $ forget ! 24 refl $ forget ! 22 refl $ forget ! 20 refl $ forget ! 18 refl $ forget ! 16 refl $ forget ! 14 refl $ forget ! 12 refl $ forget ! 10 refl $
         move ! (0 ∷ 1 ∷ 2 ∷ 4 ∷ 5 ∷ 6 ∷ 7 ∷ 8 ∷ 9 ∷ 10 ∷ 11 ∷ 12 ∷ 13 ∷ 14 ∷ 15 ∷ 16 ∷ 17 ∷ 18 ∷ 19 ∷ 20 ∷ 21 ∷ 22 ∷ 23 ∷ 24 ∷ 25 ∷ 26 ∷ 27 ∷ 28 ∷ 29 ∷ 30 ∷ 31 ∷ 32 ∷ 33 ∷ 34 ∷ 35 ∷ 36 ∷ 37 ∷ 38 ∷ 39 ∷ 40 ∷ 41 ∷ 42 ∷ 43 ∷ 44 ∷ 45 ∷ 46 ∷ 47 ∷ 48 ∷ 49 ∷ 50 ∷ 51 ∷ 3 ∷ 52 ∷ 53 ∷ 54 ∷ 55 ∷ 56 ∷ 57 ∷ 58 ∷ 59 ∷ 60 ∷ 61 ∷ 62 ∷ []) $
-        leaves nothingSeen (agree-fails d (shape is-d) own named₁ (is-so (allSpare n (d .rows)) spare) (is-so (allNoted n (d .rows)) noted) (is-false agreed bad)) is-v)))
+        leaves nothingSeen (agree-fails d (shape is-d) own named₁ (is-so (allSpare n (d .rows)) spare) (is-so (allNoted n (d .rows)) noted) (is-false agreed bad)) is-v))
         (λ fine.
         -- the barrier's row
         assigns ! (addr ! (from ! (hop ! (look ! 61 refl) (fld ! barriers-at (stop !))))) (from ! (stop !)) (init ! 10 refl (tt, tt)) $
@@ -510,12 +484,9 @@ module _ {M : Type 1} (𝓤 : URA M) (H : Heap 𝓤) (A : Atoms 𝓤) (W : Given
         (λ _ _. (and-then ! (load ! (from ! (stop !)) (look ! 9 refl)) (and-then ! (load ! (from ! (stop !)) (look ! 25 refl)) (no-more !)))) (λ is-r.
         land ! (from ! (stop !)) (init ! 48 refl (LL.lawful R.the-type R′.the-laws 𝓤 H A W .typed (barrierAt d named₁) _ is-r .0)) $
         move ! (0 ∷ 2 ∷ []) $
-        feqI ! ℕ (length (d .barriers)) 16 ((shape is-d) .barriers) $ fjoin ! $ use1 W (‵ (partAt Barriers fullShare (d .barriers) b (o + 260))) (array-whole 𝓤 H A W R.the-row fullShare 16 (d .barriers) b (o + 260)) $
-        use2 W (‵ (partAt B.the-row fullShare d b o)) (barriers-in 𝓤 H A W d b o (d .barriers)) $
+        barriers-back is-d $
         move ! (1 ∷ []) $
-        feqI ! ℕ (length hs) 17 sets-len $ fjoin ! $ use1 W (‵ (partAt Sets fullShare hs l₅ 0)) (array-whole 𝓤 H A W u32 fullShare 17 hs l₅ 0) $
-        use1 W (some (λ (u : Val). ‵ (fat fullShare array l₅ 0 u) ⊛ ‵ (Sets .own hs (u ∷ [])))) (part-out 𝓤 H A W Sets refl fullShare hs l₅ 0) $ pick ! (λ u. split ! $ move ! (1 ∷ []) $ drop ! $
-        forget ! 0 refl $
+        sets-gone $
         -- what is seen
         calls-exact ! fm (seen.signature .params) X.the-row (seen.ended .kept) (seen.clauses 𝓤 H A at-mem run) (known .seen) (uint-makes 𝓤 H A W w8, (uint-makes 𝓤 H A W w32, (LL.makes U.the-type U′.the-plain 𝓤 H A, (LL.makes R.the-type R′.the-plain 𝓤 H A, tt)))) mach-survey (LL.tells X.the-type X′.the-laws)
         (n, (alive, (warpAt d own, (barrierAt d named₁, tt)))) (vint w8 n ∷ [], (vint w32 alive ∷ [], (mach-warp (warpAt d own) ∷ [], (mach-barrier (barrierAt d named₁) ∷ [], tt)))) ((refl, (n-fits is-d)), (is-live, (is-w, (is-r, tt)))) tt (id⊢ 𝓤 _) (seenOf n alive (warpAt d own) (barrierAt d named₁)) (λ r e. id⊢ 𝓤 _)
@@ -524,32 +495,10 @@ module _ {M : Type 1} (𝓤 : URA M) (H : Heap 𝓤) (A : Atoms 𝓤) (W : Given
         move ! (1 ∷ 2 ∷ 3 ∷ 4 ∷ []) $
         close-ref ! tt (mem B.the-row) d {b = b} {o = o} $
         returns ! (look ! 61 refl) $
-        forget ! 53 refl $
-        forget ! 50 refl $
-        forget ! 48 refl $
-        forget ! 46 refl $
-        forget ! 44 refl $
-        forget ! 42 refl $
-        forget ! 40 refl $
-        forget ! 38 refl $
-        forget ! 36 refl $
-        forget ! 34 refl $
-        forget ! 32 refl $
-        forget ! 30 refl $
-        forget ! 28 refl $
-        forget ! 26 refl $
-        forget ! 24 refl $
-        forget ! 22 refl $
-        forget ! 20 refl $
-        forget ! 18 refl $
-        forget ! 16 refl $
-        forget ! 14 refl $
-        forget ! 12 refl $
-        forget ! 10 refl $
-        forget ! 8 refl $
-        forget ! 6 refl $
+        forget ! 53 refl $ forget ! 50 refl $ forget ! 48 refl $ forget ! 46 refl $ forget ! 44 refl $ forget ! 42 refl $ forget ! 40 refl $ forget ! 38 refl $ forget ! 36 refl $ forget ! 34 refl $ forget ! 32 refl $ forget ! 30 refl $
+        forget ! 28 refl $ forget ! 26 refl $ forget ! 24 refl $ forget ! 22 refl $ forget ! 20 refl $ forget ! 18 refl $ forget ! 16 refl $ forget ! 14 refl $ forget ! 12 refl $ forget ! 10 refl $ forget ! 8 refl $ forget ! 6 refl $
         move ! (0 ∷ 1 ∷ 2 ∷ 4 ∷ 5 ∷ 6 ∷ 7 ∷ 8 ∷ 9 ∷ 10 ∷ 11 ∷ 12 ∷ 13 ∷ 14 ∷ 15 ∷ 16 ∷ 17 ∷ 18 ∷ 19 ∷ 20 ∷ 21 ∷ 22 ∷ 23 ∷ 24 ∷ 25 ∷ 26 ∷ 27 ∷ 28 ∷ 29 ∷ 30 ∷ 31 ∷ 32 ∷ 33 ∷ 34 ∷ 35 ∷ 36 ∷ 37 ∷ 38 ∷ 39 ∷ 40 ∷ 41 ∷ 42 ∷ 43 ∷ 44 ∷ 45 ∷ 46 ∷ 47 ∷ 48 ∷ 49 ∷ 50 ∷ 51 ∷ 3 ∷ 52 ∷ 53 ∷ 54 ∷ 55 ∷ 56 ∷ 57 ∷ 58 ∷ 59 ∷ 60 ∷ 61 ∷ 62 ∷ []) $
-        leaves (seenOf n alive (warpAt d own) (barrierAt d named₁)) (sees d (shape is-d) own named₁ (is-so (allSpare n (d .rows)) spare) (is-so (allNoted n (d .rows)) noted) (is-so agreed fine)) is-v)))))))))))))))))))))))))))))))))))))))))))
+        leaves (seenOf n alive (warpAt d own) (barrierAt d named₁)) (sees d (shape is-d) own named₁ (is-so (allSpare n (d .rows)) spare) (is-so (allNoted n (d .rows)) noted) (is-so agreed fine)) is-v))))))))))))))))))))))))))))))))))))))))))
 
 module _ {M : Type 1} (𝓤 : URA M) (H : Heap 𝓤) (A : Atoms 𝓤) (W : Given 𝓤 H A) (mem : Memory → SProp 𝓤) (run : Routine → Fun 𝓤) (𝓣 : Tables 𝓤 H) where
   survey-of-walks : Known 𝓤 H A mem run (𝓣 .C) → Walks 𝓤 H A survey.ended stayed (WpFn 𝓤 H (𝓣 .C) (𝓣 .Λ) code.function) (survey.clauses 𝓤 H A mem run)
@@ -569,6 +518,6 @@ survey-of-spec 𝓤 H 𝓜 𝓖 𝓡 =
       rows-agree = cited 𝓤 H (RowsAgree 𝓤 H (𝓖 .A) (𝓜 .mem) (𝓡 .run)) 𝓜 𝓡 code.env #lent-agreement·rows-agree rows-agree-def.routine code.calls-lent-agreement·rows-agree (rows-agree-thm.met 𝓤 H 𝓜 𝓖 𝓡);
       no-sets = cited 𝓤 H (NoSets 𝓤 H (𝓖 .A) (𝓜 .mem) (𝓡 .run)) 𝓜 𝓡 code.env #lent-survey·no-sets no-sets-def.routine code.calls-lent-survey·no-sets (no-sets-thm.met 𝓤 H 𝓜 𝓖 𝓡);
       not-exited = cited 𝓤 H (NotExited 𝓤 H (𝓖 .A) (𝓜 .mem) (𝓡 .run)) 𝓜 𝓡 code.env #lent-survey·not-exited not-exited-def.routine code.calls-lent-survey·not-exited (not-exited-thm.met 𝓤 H 𝓜 𝓖 𝓡);
-      unsound = cited 𝓤 H (Unsound 𝓤 H (𝓖 .A) (𝓜 .mem) (𝓡 .run)) 𝓜 𝓡 code.env #lent-survey·unsound unsound-def.routine code.calls-lent-survey·unsound (unsound-thm.met 𝓤 H 𝓜 𝓖 𝓡);
+      unsound = cited 𝓤 H (Unsound 𝓤 H (𝓖 .A) (𝓜 .mem) (𝓡 .run)) 𝓜 𝓡 code.env #soundness·unsound unsound-def.routine code.calls-soundness·unsound (unsound-thm.met 𝓤 H 𝓜 𝓖 𝓡);
       seen = cited 𝓤 H (SeenOf 𝓤 H (𝓖 .A) (𝓜 .mem) (𝓡 .run)) 𝓜 𝓡 code.env #lent-survey·seen seen-def.routine code.calls-lent-survey·seen (seen-thm.met 𝓤 H 𝓜 𝓖 𝓡);
     }))

@@ -1,33 +1,39 @@
--- `steps::step_at` meets its contract: the warp, and what the kind makes of the places.
+-- `steps::step_at` meets its contract: the warp, and what the kind makes of what is behind it.
 -- Assumes nothing.
-use mathlib.Core.Path.{_∙_, ap}
+use mathlib.Core.Path.{_∙_, sym, ap}
+use mathlib.Core.List.{[]}
+use Prim.Native.Nat.{ℕ}
 use borrow.Author.Needs.{needs}
+use lib.Dec.{lit<}
 use lib.ListN.{drop}
 use denote.Ref.{now}
-use Rattle.steps.specs.Places.{opFrom}
-use Rattle.steps.proofs.Each.{known, warp-first, by-places}
+use Rattle.fields.specs.Num.{num}
+use Rattle.steps.specs.Step.{row}
+use Rattle.steps.proofs.Each.{known}
+use Rattle.steps.proofs.Fields.{warp-width, first, one-more}
 use Rattle.steps.proofs.step_at.Statement.{statement}
 use Rattle.steps.proofs.step_at.Tie as tie
 
 one-requires : tie.Need-one-requires
 one-requires c κs = search needs
 
-places-at-requires : tie.Need-places-at-requires
-places-at-requires c κs = search needs
+add-op-at : tie.Need-add-op-at
+add-op-at c = search needs
 
-op-of-requires : tie.Need-op-of-requires
-op-of-requires c κs = known (c .before .before .before .args .kind) (c .before .before .before .pre .0)
+op-at-requires : tie.Need-op-at-requires
+op-at-requires c κs = search needs
 
 returns : tie.Need-returns
 returns c =
-    let a = c .before .before .before .before .args in
-    let h = c .before .before .before .before .pre .0 in
-    let k = known (a .kind) h in
-    let o = c .op-of .ensures
-    ∙ ap (opFrom (a .kind)) (c .before .places-at .ensures)
-    ∙ by-places (now (a .s)) (a .at) (a .kind) k in
-    let w = c .before .before .one .ensures ∙ warp-first (drop (a .at) (now (a .s))) (a .kind) k h in
+    let b = c .before .before .before in
+    let a = b .args in
+    let l = drop (a .at) (now (a .s)) in
+    let x = c .before .one .result in
+    let e = c .before .one .ensures in
+    let one = warp-width (a .kind) (known (a .kind) (b .pre .0)) (b .pre .0) in
+    let w = e ∙ ap (λ (n : ℕ). num n l) (sym one) ∙ first (row (a .kind)) l in
+    let o = c .op-at .ensures x ∙ one-more (a .kind) [] (now (a .s)) (a .at) 1 x one (lit< tt) e in
     λ i. record { warp = w i; op = o i }
 
 pub step-at-spec : {M : Type 1} → statement M
-step-at-spec = tie.close (tie.spec one-requires places-at-requires op-of-requires returns)
+step-at-spec = tie.close (tie.spec one-requires add-op-at op-at-requires returns)

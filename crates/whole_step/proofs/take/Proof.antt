@@ -1,11 +1,14 @@
-use mathlib.Core.Path.{refl, ap, _∙_}
+use mathlib.Core.Path.{ap, _∙_}
 use Prim.Native.Nat.{ℕ}
 use lib.ListN.{length-map}
 use borrow.Author.Needs.{needs}
 use Rattle.block.specs.declared.Block.{Block}
 use Rattle.block_laws.specs.Sound.{Shaped}
+use Rattle.soundness.specs.declared.Survey.{Survey}
 use Rattle.soundness.specs.Seen.{surveyOf}
 use Rattle.tables.specs.declared.Taken.{Taken}
+use Rattle.decisions.specs.Decides.{leftOf, decidedOn}
+use Rattle.decisions.proofs.Decides.{decision-seen}
 use Rattle.whole_step.proofs.take.Statement.{statement}
 use Rattle.whole_step.proofs.take.Tie as tie
 
@@ -32,7 +35,9 @@ returns c =
     let s = v .before .before in
     let b = s .args .b in
     let seen = v .survey-of .ensures ∙ ap (λ (k : ℕ). surveyOf b (s .args .step .warp) k) (v .before .barrier-of .ensures) in
-    ap {B = Taken} (λ (x : Block). record { verdict = d .decide .result .verdict; block = x; object = d .decide .result .object }) (c .before .changed .ensures) ∙ d .decide .ensures b (shape s) seen refl
+    ap {B = Taken} (λ (x : Block). record { verdict = d .decide .result .verdict; block = x; object = d .decide .result .object }) (c .before .changed .ensures)
+    ∙ ap (leftOf b) (d .decide .ensures ∙ ap (λ (y : Survey). decidedOn y (b .barriers) (s .args .fine) (s .args .row) (s .args .step)) seen)
+    ∙ decision-seen b (shape s) (s .args .fine) (s .args .row) (s .args .step)
 
 pub take-spec : {M : Type 1} → statement M
 take-spec =

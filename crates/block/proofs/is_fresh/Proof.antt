@@ -1,6 +1,6 @@
 use borrow.Author.Needs.{needs}
-use Rattle.soundness.proofs.is_fresh.Statement.{statement}
-use Rattle.soundness.proofs.is_fresh.Tie as tie
+use Rattle.block.proofs.is_fresh.Statement.{statement}
+use Rattle.block.proofs.is_fresh.Tie as tie
 
 is-ready-requires : tie.Need-is-ready-requires
 is-ready-requires c κs = search needs
