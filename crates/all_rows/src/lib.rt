@@ -1,42 +1,54 @@
 // Walks over the whole list of object rows that the caller lends: whether each is sound, and all made dead.
-use object::MOST;
 use object::Object;
 use rows::SLOTS;
 ghost use mathlib.Core.Path.{_≡_};
 ghost use mathlib.Core.Bool.{_&&_, not};
-ghost use lib.Dec.{eqb};
-ghost use lib.ListN.{length, replicate};
+ghost use Prim.Native.Nat.{_+_, _≤_};
+ghost use lib.ListN.{length, getD, replicate};
+ghost use Rattle.folds.specs.Folds.{all};
 ghost use Rattle.object.specs.Row.{dead};
-ghost use Rattle.object.specs.Soundness.{soundRow};
+ghost use Rattle.object.specs.Soundness.{deadSound, soundRow};
 ghost use Rattle.tables.specs.Tables.{soundObjects};
 
-// Whether the phase is 0 and the one before it not seen, joined into one number: most rows are dead, and a second test would be one more branch for each.
-fn unseen_start(phase: u32, seen: bool) -> bool
-    ensures { λ r. ⌜ r ≡ eqb phase 0 && not seen ⌝ }
-{
-    phase | (seen as u32) == 0
-}
+// So many rows are looked at together.
+const EIGHT: usize = 8;
 
-// Whether a row is sound, tested where it lies: a live row's first clause that fails ends the test. Every u32 is a phase.
-fn row_sound(o: &Object) -> bool
-    ensures { λ r. ⌜ r ≡ soundRow (now (o .entry)) ⌝ }
+// Whether eight rows are those of objects that are not there, asked of all together: most rows are such, and one branch for eight takes a fraction of one for each. Behind a live row the others are mostly live too, so there they are not asked.
+fn eight_dead(objects: &[Object], from: usize) -> bool
+    requires { ⌜ from + 8 ≤ length (now objects) ⌝ }
+    ensures { λ r. ⌜ r ≡ all 8 (λ k. deadSound (getD (now (objects .entry)) (from + k) dead) && not (getD (now (objects .entry)) (from + k) dead .live)) ⌝ }
 {
-    if o.live {
-        if (o.expected == 0) | (MOST < o.expected) {
-            return false;
-        }
-        if o.expected < o.pending {
-            return false;
-        }
-        if object::row_outside(o.tx) {
-            return false;
-        }
-        return (o.phase != 0) | o.seen;
+    if objects[from].live {
+        return false;
     }
-    (o.expected == 0) & (o.pending == 0) & (o.tx == 0) & unseen_start(o.phase, o.seen)
+    let mut every = true;
+    let mut k: usize = 0;
+    while k < EIGHT {
+        every = every & object_rows::is_dead(&objects[from + k]);
+        k += 1;
+    }
+    every
 }
 
-// Whether the list has 64 records and each is sound; the first that is not ends the check.
+// Whether eight rows are sound; the first that is not ends the check.
+fn eight_sound(objects: &[Object], from: usize) -> bool
+    requires { ⌜ from + 8 ≤ length (now objects) ⌝ }
+    ensures { λ r. ⌜ r ≡ all 8 (λ k. soundRow (getD (now (objects .entry)) (from + k) dead)) ⌝ }
+{
+    if eight_dead(objects, from) {
+        return true;
+    }
+    let mut k: usize = 0;
+    while k < EIGHT {
+        if !object_rows::row_sound(&objects[from + k]) {
+            return false;
+        }
+        k += 1;
+    }
+    true
+}
+
+// Whether the list has 64 records and each is sound; the first eight of which one is not end the check.
 pub fn rows_sound(objects: &[Object]) -> bool
     ensures { λ r. ⌜ r ≡ soundObjects (now (objects .entry)) ⌝ }
 {
@@ -45,10 +57,10 @@ pub fn rows_sound(objects: &[Object]) -> bool
     }
     let mut i: usize = 0;
     while i < SLOTS {
-        if !row_sound(&objects[i]) {
+        if !eight_sound(objects, i) {
             return false;
         }
-        i += 1;
+        i += EIGHT;
     }
     true
 }

@@ -1,13 +1,11 @@
 // One row of a block stored where the block lies: a warp's status, a barrier's row.
 use block::Barrier;
-use block::MOST_WARPS;
 use block::Status;
 use block::Warp;
 ghost use mathlib.Core.Path.{_≡_};
 ghost use lib.ListN.{getD, set};
 ghost use Rattle.block.specs.Tables.{freshWarp, idle};
 ghost use Rattle.barriers.specs.Changes.{withStatus};
-ghost use Rattle.block_rows.specs.Rows.{allSpare};
 
 // A warp's row with another status.
 fn with_status(row: Warp, s: Status) -> Warp
@@ -57,21 +55,4 @@ pub fn barrier_at(barriers: &[Barrier], i: usize) -> Barrier
         return block::idle_row();
     }
     barriers[i]
-}
-
-// Whether there are 32 rows and those from n on are ready with result 0; the first that is not ends the check.
-pub fn spare_fresh(rows: &[Warp], n: u8) -> bool
-    ensures { λ r. ⌜ r ≡ allSpare n (now (rows .entry)) ⌝ }
-{
-    if rows.len() != MOST_WARPS as usize {
-        return false;
-    }
-    let mut w: u8 = n;
-    while w < MOST_WARPS {
-        if !block::is_fresh(rows[w as usize]) {
-            return false;
-        }
-        w += 1;
-    }
-    true
 }

@@ -7,8 +7,8 @@
 use mathlib.Core.Path.{_≡_, refl, sym, ap, _∙_}
 use mathlib.Core.Bool.{Bool, true, false, not}
 use mathlib.Core.List.{List}
-use Prim.Native.Nat.{ℕ, zero, suc, _^_, _<_, _≤_}
-use native.Mathlib.Nat.{zero-mul, add-zero, eq-or-lt-of-le, le-of-suc-le-suc, lt-of-lt-of-le}
+use Prim.Native.Nat.{ℕ, zero, suc, _%_, _^_, _<_, _≤_}
+use native.Mathlib.Nat.{mod-eq-of-lt, zero-mul, add-zero, eq-or-lt-of-le, le-of-suc-le-suc, lt-of-lt-of-le}
 use native.Mathlib.Decide.{ℕ-discrete}
 use native.Mathlib.Omega.{arith}
 use mathlib.Core.Logic.{⊎-elim}
@@ -18,7 +18,7 @@ use lib.ListN.{length, getD, getD-replicate}
 use lib.Seq.{getD-set-same, getD-set-other}
 use borrow.Author.Tests.{eq-eqb, ne-eqb, le-ltb, ltb-true}
 use Rattle.folds.specs.Folds.{all}
-use Rattle.folds.proofs.Folds.{and-left, and-right, all-at}
+use Rattle.folds.proofs.Folds.{all-at}
 use Rattle.sets.specs.Sets.{has, put, setOf}
 use Rattle.sets.proofs.Sets.{ext, has-put-own, has-put-other, has-setOf, put-lt, setOf-lt, setOf-cong}
 use Rattle.block.specs.declared.Status.{Status}
@@ -26,7 +26,7 @@ use Rattle.block.specs.declared.Status.the-variants.{Ready, Waiting, Exited}
 use Rattle.block.specs.declared.Warp.{Warp}
 use Rattle.block.specs.declared.Block.{Block}
 use Rattle.block.specs.Tables.{mostWarps, barrierCount, freshWarp, warpAt, isExited, waitsAt, waitsPlaced}
-use Rattle.gathering.specs.Gathered.{putAt, notedAs, placedAt, notedTo, enough, allNoted, notedAll, emptySets}
+use Rattle.gathering.specs.Gathered.{putAt, notedAs, notedTo, enough, allNoted, notedAll, emptySets}
 use Rattle.gathering.proofs.Noted.{length-to, every-row}
 
 -- ---- one number more
@@ -55,7 +55,7 @@ module _ (p : ℕ → Bool) (w : ℕ) where
 -- the set that a status puts its warp in is the one at k
 abbrev pub goesTo : Status → ℕ → Bool
 goesTo Ready k = false
-goesTo (Waiting at) k = eqb at k
+goesTo (Waiting at) k = eqb (at % barrierCount) k
 goesTo Exited k = eqb barrierCount k
 
 module _ (here : List ℕ) (w k : ℕ) (l : k < length here) where
@@ -77,19 +77,18 @@ module _ (here : List ℕ) (w k : ℕ) (l : k < length here) where
     -- one row more
     as-next : (s : Status) → p w ≡ goesTo s k → getD (notedAs s w here) k 0 ≡ setOf (suc w) p
     as-next Ready e = so ∙ setOf-skip p w e
-    as-next (Waiting at) e = at-place at e
+    as-next (Waiting at) e = at-place (at % barrierCount) e
     as-next Exited e = at-place barrierCount e
 
 -- the first m rows
-pub to-sets : (rows : List Warp) (m : ℕ) → m ≤ mostWarps → all m (placedAt rows) ≡ true → (k : ℕ) → k < suc barrierCount
+pub to-sets : (rows : List Warp) (m : ℕ) → m ≤ mostWarps → (k : ℕ) → k < suc barrierCount
     → getD (notedTo rows emptySets m) k 0 ≡ setOf m (λ w. goesTo (getD rows w freshWarp .status) k)
-unfolding notedTo all setOf
-to-sets rows zero h good k l = getD-replicate (suc barrierCount) k 0 0 l
-to-sets rows (suc m) h good k l =
+unfolding notedTo setOf
+to-sets rows zero h k l = getD-replicate (suc barrierCount) k 0 0 l
+to-sets rows (suc m) h k l =
     let here = notedTo rows emptySets m in
-    let placed : placedAt rows m ≡ true = and-right (all m (placedAt rows)) (placedAt rows m) good in
-    let so = to-sets rows m (omega arith) (and-left (all m (placedAt rows)) (placedAt rows m) good) k l in
-    rw placed (as-next here m k (rw (length-to 0 rows emptySets m) l) (λ w. goesTo (getD rows w freshWarp .status) k) so (omega arith) (getD rows m freshWarp .status) refl)
+    let so = to-sets rows m (omega arith) k l in
+    as-next here m k (rw (length-to 0 rows emptySets m) l) (λ w. goesTo (getD rows w freshWarp .status) k) so (omega arith) (getD rows m freshWarp .status) refl
 
 -- ---- a block
 
@@ -109,16 +108,16 @@ module _ (b : Block) (full : length (b .rows) ≡ mostWarps) (few : b .warps ≤
     here = notedAll n (b .rows) emptySets
 
     here-is : (k : ℕ) → k < suc barrierCount → getD here k 0 ≡ setOf n (λ w. goesTo (warpAt b w .status) k)
-    here-is k l = ap (λ (s : List ℕ). getD s k 0) (sym (every-row n (b .rows) emptySets there placed .1)) ∙ to-sets (b .rows) n few placed k l
+    here-is k l = ap (λ (s : List ℕ). getD s k 0) (sym (every-row n (b .rows) emptySets there placed .1)) ∙ to-sets (b .rows) n few k l
 
     -- the set of a barrier: the warps that wait there
     pub waiters-are : (k : ℕ) → k < barrierCount → getD here k 0 ≡ setOf n (λ w. waitsAt (warpAt b w .status) k)
-    waiters-are k l = here-is k (omega arith) ∙ setOf-cong _ _ n (λ w m. waits (warpAt b w .status))
+    waiters-are k l = here-is k (omega arith) ∙ setOf-cong _ _ n (λ w m. waits (warpAt b w .status) (all-at (λ v. waitsPlaced (warpAt b v .status)) n w m placed))
       where
-        waits : (s : Status) → goesTo s k ≡ waitsAt s k
-        waits Ready = refl
-        waits (Waiting at) = refl
-        waits Exited = ne-eqb barrierCount k (λ q. omega arith)
+        waits : (s : Status) → waitsPlaced s ≡ true → goesTo s k ≡ waitsAt s k
+        waits Ready e = refl
+        waits (Waiting at) e = rw (mod-eq-of-lt (ltb-true at barrierCount e))
+        waits Exited e = ne-eqb barrierCount k (λ q. omega arith)
 
     -- the last set: the warps that have exited
     pub gone-are : getD here barrierCount 0 ≡ setOf n (λ w. isExited (warpAt b w .status))
@@ -126,5 +125,5 @@ module _ (b : Block) (full : length (b .rows) ≡ mostWarps) (few : b .warps ≤
       where
         ends : (s : Status) → waitsPlaced s ≡ true → goesTo s barrierCount ≡ isExited s
         ends Ready e = refl
-        ends (Waiting at) e = ne-eqb at barrierCount (λ q. omega (arith, q, ltb-true at barrierCount e))
+        ends (Waiting at) e = ne-eqb (at % barrierCount) barrierCount (λ q. omega (arith, q))
         ends Exited e = eq-eqb barrierCount barrierCount refl

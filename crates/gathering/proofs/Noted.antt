@@ -3,16 +3,18 @@
 use mathlib.Core.Path.{_≡_, refl, sym, _∙_}
 use mathlib.Core.Bool.{Bool, true, false, not, cond}
 use mathlib.Core.List.{List}
-use Prim.Native.Nat.{ℕ, zero, suc, _+_, _<_}
+use Prim.Native.Nat.{ℕ, zero, suc, _+_, _%_, _<_}
+use native.Mathlib.Nat.{le-refl}
 use native.Mathlib.Numerals.{add-one}
 use lib.ListN.{length, length-set, getD}
+use borrow.Author.Tests.{lt-ltb, le-ltb}
 use Rattle.folds.specs.Folds.{all, first}
 use Rattle.folds.proofs.Folds.{and-left, and-right, all-fails, first-none, first-found}
 use Rattle.block.specs.declared.Status.{Status}
 use Rattle.block.specs.declared.Status.the-variants.{Ready, Waiting, Exited}
 use Rattle.block.specs.declared.Warp.{Warp}
 use Rattle.block.specs.Tables.{barrierCount, freshWarp, waitsPlaced}
-use Rattle.gathering.specs.Gathered.{notedAs, noted, placedAt, notedTo, enough, allNoted, notedAll}
+use Rattle.gathering.specs.Gathered.{notedAs, noted, placedAt, notedTo, enough, allNoted, goneOver, notedAll}
 
 -- ---- one row
 
@@ -21,23 +23,16 @@ module _ (w : ℕ) (row : Warp) (here : List ℕ) (s : Status) (is : row .status
   abbrev pub Says : Bool → List ℕ → Type 0
   Says r l = (r ≡ waitsPlaced (row .status)) × (l ≡ noted w row here)
 
-  pub says-placed : waitsPlaced s ≡ true → Says true (notedAs s w here)
-  says-placed e = (sym (rw (is, e)), sym (rw (is, e)))
-
-  pub says-astray : waitsPlaced s ≡ false → Says false here
-  says-astray e = (sym (rw (is, e)), sym (rw (is, e)))
+  pub says : Says (waitsPlaced s) (notedAs s w here)
+  says = (sym (rw is), sym (rw is))
 
 length-as : (s : Status) (w : ℕ) (here : List ℕ) → length (notedAs s w here) ≡ length here
 length-as Ready w here = refl
-length-as (Waiting at) w here = length-set here at _
+length-as (Waiting at) w here = length-set here (at % barrierCount) _
 length-as Exited w here = length-set here barrierCount _
 
 pub length-noted : (w : ℕ) (row : Warp) (here : List ℕ) → length (noted w row here) ≡ length here
-length-noted w row here = go (waitsPlaced (row .status))
-  where
-    go : (t : Bool) → length (cond t (notedAs (row .status) w here) here) ≡ length here
-    go true = length-as (row .status) w here
-    go false = refl
+length-noted w row here = length-as (row .status) w here
 
 -- ---- the rows, one by one
 
@@ -71,20 +66,20 @@ module _ (n : ℕ) (rows : List Warp) (here : List ℕ) where
   pub too-few : enough n rows ≡ false → AllSays false here
   too-few e = (sym (rw e), sym (rw e))
 
-  -- the first warp that waits where there is no barrier, of which nothing is noted
+  -- the first warp that waits where there is no barrier
   pub astray : enough n rows ≡ true → (k : ℕ) → k < n → all k (placedAt rows) ≡ true → placedAt rows k ≡ false
       → AllSays false (noted k (getD rows k freshWarp) (notedTo rows here k))
   astray full k l good bad =
       let at-k = first-found (λ w. not (placedAt rows w)) k n l (first-of-all (placedAt rows) k good) (rw bad) in
-      (sym (rw (full, all-fails (placedAt rows) n k l bad)), rw (bad, full, at-k))
+      (sym (rw (full, all-fails (placedAt rows) n k l bad)), to-next k ∙ rw (full, at-k, lt-ltb k n l, add-one k))
 
   pub every-row : enough n rows ≡ true → all n (placedAt rows) ≡ true → AllSays true (notedTo rows here n)
-  every-row full good = (sym (rw (full, good)), rw (full, first-of-all (placedAt rows) n good))
+  every-row full good = (sym (rw (full, good)), rw (full, first-of-all (placedAt rows) n good, le-ltb n n (le-refl n)))
 
   -- the list keeps its length
   pub length-all : length (notedAll n rows here) ≡ length here
   length-all = go (enough n rows)
     where
-      go : (t : Bool) → length (cond t (notedTo rows here (first n (λ w. not (placedAt rows w)))) here) ≡ length here
+      go : (t : Bool) → length (cond t (notedTo rows here (goneOver n rows)) here) ≡ length here
       go true = length-to _
       go false = refl

@@ -2,7 +2,7 @@
 -- Assumes nothing.
 use mathlib.Core.Bool.{Bool, not, cond, _&&_}
 use mathlib.Core.List.{List}
-use Prim.Native.Nat.{ℕ, zero, suc}
+use Prim.Native.Nat.{ℕ, zero, suc, _%_}
 use lib.Dec.{ltb}
 use lib.ListN.{length, getD, set, replicate}
 use Rattle.folds.specs.Folds.{all, first}
@@ -16,15 +16,15 @@ use Rattle.block.specs.Tables.{barrierCount, freshWarp, waitsPlaced}
 abbrev pub putAt : ℕ → ℕ → List ℕ → List ℕ
 putAt k w here = set here k (put (getD here k 0) w)
 
--- what a sound row's status says of warp w
+-- what a row's status says of warp w; one that waits where there is no barrier is put somewhere, and nothing more is asked of the sets then
 abbrev pub notedAs : Status → ℕ → List ℕ → List ℕ
 notedAs Ready w here = here
-notedAs (Waiting at) w here = putAt at w here
+notedAs (Waiting at) w here = putAt (at % barrierCount) w here
 notedAs Exited w here = putAt barrierCount w here
 
--- the row of warp w: nothing is noted of one that waits where there is no barrier
+-- the row of warp w
 abbrev pub noted : ℕ → Warp → List ℕ → List ℕ
-noted w r here = cond (waitsPlaced (r .status)) (notedAs (r .status) w here) here
+noted w r here = notedAs (r .status) w here
 
 -- if warp w waits, then at a barrier that there is
 abbrev pub placedAt : List Warp → ℕ → Bool
@@ -43,9 +43,13 @@ enough n rows = not (ltb (length rows) n)
 abbrev pub allNoted : ℕ → List Warp → Bool
 allNoted n rows = enough n rows && all n (placedAt rows)
 
--- the rows before the first that does, each noted; none where there are fewer than n
+-- so many rows are gone over: those up to the first that does, with that one; else all n
+abbrev pub goneOver : ℕ → List Warp → ℕ
+goneOver n rows = let k = first n (λ w. not (placedAt rows w)) in cond (ltb k n) (suc k) n
+
+-- these rows, each noted; none where there are fewer than n
 abbrev pub notedAll : ℕ → List Warp → List ℕ → List ℕ
-notedAll n rows here = cond (enough n rows) (notedTo rows here (first n (λ w. not (placedAt rows w)))) here
+notedAll n rows here = cond (enough n rows) (notedTo rows here (goneOver n rows)) here
 
 -- the sets before any row is noted: one for each barrier, and one for those that have exited, all empty
 abbrev pub emptySets : List ℕ

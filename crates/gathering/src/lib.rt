@@ -16,7 +16,7 @@ fn put_at(here: &mut [u32], k: u8, w: u8)
     here[k as usize] = sets::put(here[k as usize], w);
 }
 
-// Puts a warp whose row this is to the set of the barrier where it waits, or, past those of the barriers, to the set of those that have exited; false where it waits at none of the sixteen.
+// Puts a warp whose row this is to the set of the barrier where it waits, or, past those of the barriers, to the set of those that have exited; false where it waits at none of the sixteen. That one is put to the set at what its number leaves by sixteen, and no set is looked at after it: a test before a warp is put would be one more branch for each that waits.
 fn note(here: &mut [u32], w: u8, row: Warp) -> bool
     ensures { λ r. ⌜ (r ≡ waitsPlaced (row .status)) × (now (here .exit) ≡ noted w row (now (here .entry))) ⌝ }
 {
@@ -24,11 +24,8 @@ fn note(here: &mut [u32], w: u8, row: Warp) -> bool
     match s {
         Status::Ready => true,
         Status::Waiting(at) => {
-            if BARRIER_COUNT <= at {
-                return false;
-            }
-            put_at(&mut *here, at, w);
-            true
+            put_at(&mut *here, at % BARRIER_COUNT, w);
+            at < BARRIER_COUNT
         }
         Status::Exited => {
             put_at(&mut *here, BARRIER_COUNT, w);

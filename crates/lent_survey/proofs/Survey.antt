@@ -22,7 +22,7 @@ use Rattle.soundness.specs.Seen.{nothingSeen, surveyOf}
 use Rattle.soundness.proofs.Seen.{not-sound, is-sound, seen}
 use Rattle.soundness.proofs.Warps.{FreshTo, exits, all-warps, left-live}
 use Rattle.soundness.proofs.Waiters.{all-agreeing, rows-decide}
-use Rattle.block_rows.specs.Rows.{allSpare}
+use Rattle.spare_rows.specs.Spare.{allSpare}
 use Rattle.gathering.specs.Gathered.{enough, allNoted, notedAll, emptySets}
 use Rattle.gathering.proofs.Gathered.{gathers, waiters-are, gone-are}
 use Rattle.gathering.proofs.Noted.{length-all}

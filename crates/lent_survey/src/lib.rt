@@ -58,7 +58,7 @@ pub fn survey_of(b: &mut Block, own: u8, named: u8) -> Survey
     ensures { λ r. ⌜ (r ≡ surveyOf (now (b .entry)) own named) × (now (b .exit) ≡ now (b .entry)) ⌝ }
 {
     let n = b.warps;
-    if !block_rows::spare_fresh(&b.rows, n) {
+    if !spare_rows::spare_fresh(&b.rows, n) {
         return soundness::unsound();
     }
     let mut here = no_sets();

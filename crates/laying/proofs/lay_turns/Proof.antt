@@ -20,7 +20,7 @@ use prog.Memory.{Memory, fieldOf}
 use prog.Routine.{Routine}
 use prog.Wp.{Heap, Env, Calls, Wp, WpFn, Tables as Calling, Out, exits as leaving, atReturn, afterBlock, afterSeq, afterTurn}
 use ghost.Atoms.{Atoms}
-use contract.Monad.{Fun, fact}
+use contract.Monad.{Fun}
 use contract.Fact.{factI}
 use contract.Running.{givenOf, tablesOf}
 use types.Kit.{Given, Item, prop, ‵, _⊛_, ⋆, Sq, runs, anyQ, atRet, _$_, _∵_, !, qed, by, move, keep, split, join, rewrite, fsplit, fjoin, suffices, frame, done}

@@ -2,7 +2,7 @@
 -- The invariants: the rows below k are sound and alike; of row k the warps below w are.
 -- Assumes nothing.
 use mathlib.Core.Path.{_≡_, refl, sym, subst, _∙_}
-use mathlib.Core.Bool.{Bool, true, false}
+use mathlib.Core.Bool.{Bool, false}
 use mathlib.Core.WellFounded.{WellFounded, InvImage·wf}
 use Prim.Native.Nat.{ℕ, _+_, _-_, _<_, _≤_, _*_, _^_}
 use native.Mathlib.Omega.{arith}

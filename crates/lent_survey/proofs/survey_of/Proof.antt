@@ -68,14 +68,14 @@ use Rattle.rows.proofs.Walk.{is-false, calls-exact, forks, gone1, concluded, ov
 use Rattle.rows.proofs.Lend.{Back, part-shut, rows-shared, rows-shared-back, rows-lent, rows-lent-back, calls-lending}
 use Rattle.rows.proofs.Lend2.{calls-lending2}
 use Rattle.in_place.proofs.Field.{Barriers, Rows, barriers-kept, barriers-out, barriers-in, rows-kept, rows-out, rows-in}
-use Rattle.block_rows.specs.Rows.{allSpare}
+use Rattle.spare_rows.specs.Spare.{allSpare}
 use Rattle.gathering.specs.Gathered.{allNoted, notedAll, emptySets}
 use Rattle.gathering.proofs.Noted.{length-all}
 use Rattle.lent_agreement.specs.Agreement.{agreedIn}
-use Rattle.block_rows.proofs.spare_fresh as spare-fresh
-use Rattle.block_rows.proofs.spare_fresh.Symbol as spare-fresh-def
-use Rattle.block_rows.proofs.spare_fresh.Symbol.{name as #block-rows·spare-fresh}
-use Rattle.block_rows.proofs.spare_fresh.Met as spare-fresh-thm
+use Rattle.spare_rows.proofs.spare_fresh as spare-fresh
+use Rattle.spare_rows.proofs.spare_fresh.Symbol as spare-fresh-def
+use Rattle.spare_rows.proofs.spare_fresh.Symbol.{name as #spare-rows·spare-fresh}
+use Rattle.spare_rows.proofs.spare_fresh.Met as spare-fresh-thm
 use Rattle.block_rows.proofs.warp_at as warp-at
 use Rattle.block_rows.proofs.warp_at.Symbol as warp-at-def
 use Rattle.block_rows.proofs.warp_at.Symbol.{name as #block-rows·warp-at}
@@ -148,7 +148,7 @@ module _ {M : Type 1} (𝓤 : URA M) (H : Heap 𝓤) (A : Atoms 𝓤) (at-mem : 
   SeenOf = tripleOf 𝓤 H A seen.signature (seen.spec 𝓤 H A at-mem run)
 
   pub record Known (C : Calls 𝓤 H) : Type 1 where
-    pub spare-fresh : Triple 𝓤 (C #block-rows·spare-fresh) SpareFresh
+    pub spare-fresh : Triple 𝓤 (C #spare-rows·spare-fresh) SpareFresh
     pub warp-at : Triple 𝓤 (C #block-rows·warp-at) WarpAt
     pub barrier-at : Triple 𝓤 (C #block-rows·barrier-at) BarrierAt
     pub gather : Triple 𝓤 (C #gathering·gather) Gathers
@@ -511,7 +511,7 @@ survey-of-spec 𝓤 H 𝓜 𝓖 𝓡 =
     concluded 𝓤 H 𝓜 𝓖 𝓡 code.env survey.ended stayed (goes-ref 𝓤 H (𝓖 .A) (givenOf 𝓤 H 𝓜 𝓖) 1 0 tt (plain (λ _. B.the-row)), (goes-none 𝓤 H (𝓖 .A) (givenOf 𝓤 H 𝓜 𝓖) 1 (λ _. u8) yes (λ κs x f. refl), (goes-none 𝓤 H (𝓖 .A) (givenOf 𝓤 H 𝓜 𝓖) 1 (λ _. u8) yes (λ κs x f. refl), tt)))
     (survey.clauses 𝓤 H (𝓖 .A) (𝓜 .mem) (𝓡 .run)) #lent-survey·survey-of code.function (code.unfolded 𝓤 H 𝓜 𝓡)
     (survey-of-walks 𝓤 H (𝓖 .A) (givenOf 𝓤 H 𝓜 𝓖) (𝓜 .mem) (𝓡 .run) (over 𝓤 H 𝓜 𝓖 𝓡 code.env) (record {
-      spare-fresh = cited 𝓤 H (SpareFresh 𝓤 H (𝓖 .A) (𝓜 .mem) (𝓡 .run)) 𝓜 𝓡 code.env #block-rows·spare-fresh spare-fresh-def.routine code.calls-block-rows·spare-fresh (spare-fresh-thm.met 𝓤 H 𝓜 𝓖 𝓡);
+      spare-fresh = cited 𝓤 H (SpareFresh 𝓤 H (𝓖 .A) (𝓜 .mem) (𝓡 .run)) 𝓜 𝓡 code.env #spare-rows·spare-fresh spare-fresh-def.routine code.calls-spare-rows·spare-fresh (spare-fresh-thm.met 𝓤 H 𝓜 𝓖 𝓡);
       warp-at = cited 𝓤 H (WarpAt 𝓤 H (𝓖 .A) (𝓜 .mem) (𝓡 .run)) 𝓜 𝓡 code.env #block-rows·warp-at warp-at-def.routine code.calls-block-rows·warp-at (warp-at-thm.met 𝓤 H 𝓜 𝓖 𝓡);
       barrier-at = cited 𝓤 H (BarrierAt 𝓤 H (𝓖 .A) (𝓜 .mem) (𝓡 .run)) 𝓜 𝓡 code.env #block-rows·barrier-at barrier-at-def.routine code.calls-block-rows·barrier-at (barrier-at-thm.met 𝓤 H 𝓜 𝓖 𝓡);
       gather = cited 𝓤 H (Gathers 𝓤 H (𝓖 .A) (𝓜 .mem) (𝓡 .run)) 𝓜 𝓡 code.env #gathering·gather gather-def.routine code.calls-gathering·gather (gather-thm.met 𝓤 H 𝓜 𝓖 𝓡);
