@@ -27,7 +27,7 @@ use Rattle.block.specs.declared.Warp.{Warp}
 use Rattle.block.specs.declared.Block.{Block}
 use Rattle.block.specs.Tables.{mostWarps, barrierCount, freshWarp, warpAt, isExited, waitsAt, waitsPlaced}
 use Rattle.gathering.specs.Gathered.{putAt, notedAs, notedTo, enough, allNoted, notedAll, emptySets}
-use Rattle.gathering.proofs.Noted.{length-to, every-row}
+use Rattle.gathering.proofs.Noted.{length-noted, all-of}
 
 -- ---- one number more
 
@@ -88,7 +88,7 @@ to-sets rows zero h k l = getD-replicate (suc barrierCount) k 0 0 l
 to-sets rows (suc m) h k l =
     let here = notedTo rows emptySets m in
     let so = to-sets rows m (omega arith) k l in
-    as-next here m k (rw (length-to 0 rows emptySets m) l) (λ w. goesTo (getD rows w freshWarp .status) k) so (omega arith) (getD rows m freshWarp .status) refl
+    as-next here m k (rw (length-noted 0 rows emptySets m) l) (λ w. goesTo (getD rows w freshWarp .status) k) so (omega arith) (getD rows m freshWarp .status) refl
 
 -- ---- a block
 
@@ -108,7 +108,7 @@ module _ (b : Block) (full : length (b .rows) ≡ mostWarps) (few : b .warps ≤
     here = notedAll n (b .rows) emptySets
 
     here-is : (k : ℕ) → k < suc barrierCount → getD here k 0 ≡ setOf n (λ w. goesTo (warpAt b w .status) k)
-    here-is k l = ap (λ (s : List ℕ). getD s k 0) (sym (every-row n (b .rows) emptySets there placed .1)) ∙ to-sets (b .rows) n few k l
+    here-is k l = ap (λ (s : List ℕ). getD s k 0) (all-of n (b .rows) emptySets there) ∙ to-sets (b .rows) n few k l
 
     -- the set of a barrier: the warps that wait there
     pub waiters-are : (k : ℕ) → k < barrierCount → getD here k 0 ≡ setOf n (λ w. waitsAt (warpAt b w .status) k)

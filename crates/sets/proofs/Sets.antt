@@ -8,7 +8,7 @@ use native.Mathlib.Nat.{mod-lt, mod-one, mul-comm, mul-assoc, one-mul, add-comm,
 use native.Mathlib.Numerals.{add-one, one-add}
 use native.Mathlib.Omega.{arith}
 use lib.Arith.{bin-ind, lt-of-le-ne, lt-one}
-use lib.Bits.{bitAnd, and-step, and-self, and-lt, bitOr, and-shr, and-mod, or-shr, or-mod, or-lt}
+use lib.Bits.{bitAnd, and-step, and-self, and-lt, and-mask, bitOr, and-shr, and-mod, or-shr, or-mod, or-lt}
 use lib.Count.{ones, onesIn, ones-step, ones-cat}
 use lib.Dec.{eqb, ltb, lit<}
 use lib.Pow.{recompose, field, mod-mod-pow, pow-pos, pow-lt, pow-mono, pow-add, mod-pow-add, shl-exact, shl-shr, high, low}
@@ -162,9 +162,29 @@ part-of n a b ha hb h =
     go w l true e = rw e (h w l e)
     go w l false e = rw e
 
+-- a set names only warps below n exactly when each is one of these
+pub part-low : (k s : ℕ) → part s (2 ^ k - 1) ≡ within k s
+part-low k s = ap (λ (x : ℕ). eqb x s) (and-mask s k) ∙ go (ltb s (2 ^ k)) refl
+  where
+    go : (t : Bool) → ltb s (2 ^ k) ≡ t → eqb (s % 2 ^ k) s ≡ t
+    go true e = eq-eqb (s % 2 ^ k) s (mod-eq-of-lt (ltb-true s (2 ^ k) e))
+    go false e = ne-eqb (s % 2 ^ k) s (λ q. omega (arith, q, mod-lt s (pow-pos k), ltb-false s (2 ^ k) e))
+
 -- any set of 32 digits names only warps below 32 or more
-pub within-all : (n s : ℕ) → s < 2 ^ 32 → 32 ≤ n → within n s ≡ true
+within-all : (n s : ℕ) → s < 2 ^ 32 → 32 ≤ n → within n s ≡ true
 within-all n s l h = lt-ltb s (2 ^ n) (lt-of-lt-of-le l (pow-mono h))
+
+-- a mask has 32 digits, however high n is
+pub part-below : (n s : ℕ) → s < 2 ^ 32 → part s (2 ^ min n 32 - 1) ≡ within n s
+part-below n s l = go (ltb n 32) refl
+  where
+    go : (t : Bool) → ltb n 32 ≡ t → part s (2 ^ min n 32 - 1) ≡ within n s
+    go true e =
+        let q : min n 32 ≡ n = omega (arith, ltb-true n 32 e) in
+        rw q (part-low n s)
+    go false e =
+        let q : min n 32 ≡ 32 = omega (arith, ltb-false n 32 e) in
+        rw q (part-low 32 s ∙ within-all 32 s l (omega arith) ∙ sym (within-all n s l (ltb-false n 32 e)))
 
 -- ---- sizes
 

@@ -1,6 +1,10 @@
 // Sets of warps as u32 masks, warp 0 lowest: has, put, part, within, size. Each takes any set and any warp.
 ghost use mathlib.Core.Path.{_≡_};
+ghost use Prim.Native.Nat.{_-_, _^_, min};
 ghost use Rattle.sets.specs.Sets.{has as hasOf, put as putOf, part as partOf, within as withinOf, size as sizeOf};
+
+// The set of all 32 warps.
+const ALL: u32 = 4294967295;
 
 // Whether the set has warp w.
 pub fn has(set: u32, w: u8) -> bool
@@ -27,11 +31,18 @@ pub fn part(a: u32, b: u32) -> bool
     a & b == a
 }
 
-// Whether the set names only warps below n.
+// The set of the warps below n.
+fn below(n: u8) -> u32
+    ensures { λ r. ⌜ r ≡ 2 ^ min n 32 - 1 ⌝ }
+{
+    if n < 32 { (1 << (n as u32)) - 1 } else { ALL }
+}
+
+// Whether the set names only warps below n: each is one of those. In a walk over many sets the compiler makes that set once; a shift by n it would make for each.
 pub fn within(n: u8, set: u32) -> bool
     ensures { λ r. ⌜ r ≡ withinOf n set ⌝ }
 {
-    if n < 32 { set < 1 << (n as u32) } else { true }
+    part(set, below(n))
 }
 
 // How many warps a set has, or how many lanes of a mask are true.

@@ -1,7 +1,7 @@
-use mathlib.Core.Path.{_∙_}
+use mathlib.Core.Path.{refl}
 use denote.Ref.{now}
 use borrow.Author.Needs.{needs}
-use Rattle.gathering.proofs.Noted.{says}
+use Rattle.gathering.proofs.Noted.{notes}
 use Rattle.gathering.proofs.note.Statement.{statement}
 use Rattle.gathering.proofs.note.Tie as tie
 
@@ -11,39 +11,39 @@ enum-told c = search needs
 enum-known-s : tie.Need-enum-known-s
 enum-known-s c = search needs
 
-put-at-requires : tie.Need-put-at-requires
-put-at-requires c κs = search needs
+keep-requires : tie.Need-keep-requires
+keep-requires c κs = search needs
 
 enum-told-2 : tie.Need-enum-told-2
 enum-told-2 c = search needs
 
-put-at-requires-2 : tie.Need-put-at-requires-2
-put-at-requires-2 c κs = search needs
+keep-requires-2 : tie.Need-keep-requires-2
+keep-requires-2 c κs = search needs
 
 returns : tie.Need-returns
-returns c = let a = c .before .before .before .args in says (a .w) (a .row) (now (a .here)) _ (c .enum-told .given .1)
+returns c =
+    let a = c .before .before .before .args in
+    notes (a .w) (a .kept) (now (a .here)) (a .row) _ (c .enum-told .given .1) (a .kept) (now (a .here)) refl refl
 
 same-length : tie.Need-same-length
 same-length c = search needs
 
 returns-2 : tie.Need-returns-2
 returns-2 c =
-    let put = c .before .before in
-    let x = put .before .before .before in
-    let a = x .before .before .before .args in
-    let z = says (a .w) (a .row) (now (a .here)) _ (x .s .given .1) in
-    (z .0, put .put-at .ensures ∙ z .1)
+    let kept = c .before .before in
+    let waits = kept .before .before .before .before in
+    let a = waits .before .before .before .args in
+    notes (a .w) (a .kept) (now (a .here)) (a .row) _ (waits .s .given .1) _ _ (kept .keep .ensures .0) (kept .keep .ensures .1)
 
 same-length-2 : tie.Need-same-length-2
 same-length-2 c = search needs
 
 returns-3 : tie.Need-returns-3
 returns-3 c =
-    let put = c .before .before in
-    let e = put .before .before in
-    let a = e .before .before .before .args in
-    let z = says (a .w) (a .row) (now (a .here)) _ (e .enum-told2 .given .1) in
-    (z .0, put .put-at2 .ensures ∙ z .1)
+    let kept = c .before .before in
+    let exited = kept .before .before in
+    let a = exited .before .before .before .args in
+    notes (a .w) (a .kept) (now (a .here)) (a .row) _ (exited .enum-told2 .given .1) _ _ (kept .keep2 .ensures .0) (kept .keep2 .ensures .1)
 
 pub note-spec : {M : Type 1} → statement M
-note-spec = tie.close (tie.spec enum-told enum-known-s put-at-requires enum-told-2 put-at-requires-2 returns same-length returns-2 same-length-2 returns-3)
+note-spec = tie.close (tie.spec enum-told enum-known-s keep-requires enum-told-2 keep-requires-2 returns same-length returns-2 same-length-2 returns-3)
