@@ -1,5 +1,5 @@
 -- An array in memory is lent as a slice for one call, and the two arrays of a block in memory are taken out of it and put back.
---     array-lent       an array of n lent as a `&mut [T]` (`Rattle.rows.proofs.Lend`'s `Loan`).        array-lent-back      it comes back at the last list, by its other name zs
+--     array-lent       an array of n lent as a `&mut [T]` (`Rattle.walks.proofs.Lend`'s `Loan`).        array-lent-back      it comes back at the last list, by its other name zs
 --     barriers-out     a block in memory gives its barriers in memory, and what is kept of it.        barriers-in      any barriers in that memory, with what is kept, are the block with those
 --     rows-out, rows-in        the same of its warps' rows
 -- What is kept of the block stands in the context while its array is lent: a loan's own `Keep` is a formula, and what is kept holds a way back, which is none.
@@ -31,7 +31,7 @@ use denote.Struct.Declared.{shape}
 use denote.Struct.Struct.{Struct}
 use borrow.Struct.Lend.{kept-field, record-apart-as, record-fill-as}
 use borrow.Struct.Items.{array-same}
-use Rattle.rows.proofs.Lend.{Loan, Back, rows-lent}
+use Rattle.walks.proofs.Lend.{Loan, Back, rows-lent}
 use Rattle.block.specs.declared.Warp.{Warp}
 use Rattle.block.specs.declared.Barrier.{Barrier}
 use Rattle.block.specs.declared.Block.{Block}

@@ -13,7 +13,7 @@ use Rattle.folds.proofs.Folds.{all-none, all-more, all-fails, all-end}
 use Rattle.block.specs.declared.Barrier.{Barrier}
 use Rattle.block.specs.Tables.{mostWarps, barrierCount, idle, rowSound}
 use Rattle.agreement.specs.Agreement.{alikeAt, allSound}
-use Rattle.rows.proofs.Walk.{is-false}
+use Rattle.walks.proofs.Walk.{is-false}
 use Rattle.lent_agreement.specs.Agreement.{agreedIn}
 
 -- row k is sound; and all of its warps are alike

@@ -57,7 +57,7 @@ use Rattle.tables.proofs.Tally as T
 use Rattle.tables.proofs.Tally.Laws as T′
 use Rattle.lent.specs.Entries.{stateOf, Stepped}
 use Rattle.lent.proofs.Spelt.{R, vals-R, tells-R, spelt-R, spelt-B, spelt-T, spelt-E}
-use Rattle.rows.proofs.Lend.{rows-lent, rows-lent-back, record-lent, record-lent-back}
+use Rattle.walks.proofs.Lend.{rows-lent, rows-lent-back, record-lent, record-lent-back}
 use Rattle.lent_step.proofs.step as step
 use Rattle.lent_step.proofs.step.Key.{name as #lent-step·step}
 

@@ -13,7 +13,7 @@ use Rattle.folds.specs.Folds.{all}
 use Rattle.folds.proofs.Folds.{all-at, all-of, all-fails}
 use Rattle.block.specs.declared.Warp.{Warp}
 use Rattle.block.specs.Tables.{mostWarps, freshWarp, spareFresh}
-use Rattle.rows.proofs.Walk.{is-false}
+use Rattle.walks.proofs.Walk.{is-false}
 use Rattle.spare_rows.specs.Spare.{isFresh, allSpare}
 
 -- ---- the answers

@@ -50,8 +50,8 @@ use Rattle.object.specs.declared.Object.{Object}
 use Rattle.object.specs.Row.{dead}
 use Rattle.object.proofs.Object as O
 use Rattle.object.proofs.Object.Laws as O′
-use Rattle.rows.proofs.Walk.{forks, gone1, concluded, over}
-use Rattle.rows.proofs.Lend.{record-shared, record-shared-back, calls-lending}
+use Rattle.walks.proofs.Walk.{forks, gone1, concluded, over}
+use Rattle.walks.proofs.Lend.{record-shared, record-shared-back, calls-lending}
 use Rattle.object_rows.proofs.is_dead as is-dead
 use Rattle.object_rows.proofs.is_dead.Symbol as is-dead-def
 use Rattle.object_rows.proofs.is_dead.Symbol.{name as #object-rows·is-dead}

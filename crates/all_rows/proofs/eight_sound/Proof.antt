@@ -51,8 +51,8 @@ use Rattle.object.specs.declared.Object.{Object}
 use Rattle.object.specs.Row.{dead}
 use Rattle.object.proofs.Object as O
 use Rattle.object.proofs.Object.Laws as O′
-use Rattle.rows.proofs.Walk.{is-false, forks, gone1, concluded, over}
-use Rattle.rows.proofs.Lend.{rows-shared, rows-shared-back, record-shared, record-shared-back, calls-lending}
+use Rattle.walks.proofs.Walk.{is-false, forks, gone1, concluded, over}
+use Rattle.walks.proofs.Lend.{rows-shared, rows-shared-back, record-shared, record-shared-back, calls-lending}
 use Rattle.object_rows.proofs.row_sound as row-sound
 use Rattle.object_rows.proofs.row_sound.Symbol as row-sound-def
 use Rattle.object_rows.proofs.row_sound.Symbol.{name as #object-rows·row-sound}

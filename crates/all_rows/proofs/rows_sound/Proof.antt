@@ -52,8 +52,8 @@ use Rattle.object.specs.Tokens.{slots}
 use Rattle.object.proofs.Object as O
 use Rattle.object.proofs.Object.Laws as O′
 use Rattle.tables.specs.Tables.{soundObjects}
-use Rattle.rows.proofs.Walk.{is-false, forks, gone1, concluded, over}
-use Rattle.rows.proofs.Lend.{rows-shared, rows-shared-back, calls-lending}
+use Rattle.walks.proofs.Walk.{is-false, forks, gone1, concluded, over}
+use Rattle.walks.proofs.Lend.{rows-shared, rows-shared-back, calls-lending}
 use Rattle.all_rows.proofs.Eights.{soundAt, eights, one-unsound}
 use Rattle.all_rows.proofs.eight_sound as eight-sound
 use Rattle.all_rows.proofs.eight_sound.Symbol as eight-sound-def

@@ -42,7 +42,7 @@ use Rattle.block.specs.declared.Barrier.{Barrier}
 use Rattle.block.specs.Tables.{idle}
 use Rattle.block.proofs.Barrier as R
 use Rattle.block.proofs.Barrier.Laws as R′
-use Rattle.rows.proofs.Walk.{calls-exact, forks, gone1, concluded, over}
+use Rattle.walks.proofs.Walk.{calls-exact, forks, gone1, concluded, over}
 use Rattle.block.proofs.idle_row as default-row
 use Rattle.block.proofs.idle_row.Symbol as default-row-def
 use Rattle.block.proofs.idle_row.Symbol.{name as #block·idle-row}

@@ -41,7 +41,7 @@ use Rattle.block.specs.declared.Barrier.{Barrier}
 use Rattle.block.specs.Tables.{idle}
 use Rattle.block.proofs.Barrier as B
 use Rattle.block.proofs.Barrier.Laws as B′
-use Rattle.rows.proofs.Walk.{forks, gone1, concluded, over}
+use Rattle.walks.proofs.Walk.{forks, gone1, concluded, over}
 use Rattle.block_rows.proofs.put_barrier.Key.{name as #block-rows·put-barrier}
 use Rattle.block_rows.proofs.put_barrier as put-barrier
 use Rattle.block_rows.proofs.put_barrier.Statement as stated

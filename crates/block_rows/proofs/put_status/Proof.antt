@@ -50,7 +50,7 @@ use Rattle.block.proofs.Status.Laws as S′
 use Rattle.block.proofs.Warp as R
 use Rattle.block.proofs.Warp.Laws as R′
 use Rattle.barriers.specs.Changes.{withStatus}
-use Rattle.rows.proofs.Walk.{calls-exact, forks, gone1, concluded, over}
+use Rattle.walks.proofs.Walk.{calls-exact, forks, gone1, concluded, over}
 use Rattle.block_rows.proofs.with_status as with-status
 use Rattle.block_rows.proofs.with_status.Symbol as with-status-def
 use Rattle.block_rows.proofs.with_status.Symbol.{name as #block-rows·with-status}

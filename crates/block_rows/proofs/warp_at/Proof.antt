@@ -42,7 +42,7 @@ use Rattle.block.specs.declared.Warp.{Warp}
 use Rattle.block.specs.Tables.{freshWarp}
 use Rattle.block.proofs.Warp as U
 use Rattle.block.proofs.Warp.Laws as U′
-use Rattle.rows.proofs.Walk.{calls-exact, forks, gone1, concluded, over}
+use Rattle.walks.proofs.Walk.{calls-exact, forks, gone1, concluded, over}
 use Rattle.block.proofs.fresh_warp as default-row
 use Rattle.block.proofs.fresh_warp.Symbol as default-row-def
 use Rattle.block.proofs.fresh_warp.Symbol.{name as #block·fresh-warp}

@@ -54,14 +54,14 @@ use Rattle.tables.specs.declared.Tally.{Tally}
 use Rattle.tables.specs.Tables.{freshTally}
 use Rattle.tables.proofs.Tally as T
 use Rattle.tables.proofs.Tally.Laws as T′
-use Rattle.rows.proofs.Walk.{is-false, says-too, calls-exact, forks, gone1, concluded, over}
+use Rattle.walks.proofs.Walk.{is-false, says-too, calls-exact, forks, gone1, concluded, over}
 use Rattle.all_rows.proofs.fresh_rows as fresh-rows
 use Rattle.all_rows.proofs.fresh_rows.Symbol as fresh-rows-def
 use Rattle.all_rows.proofs.fresh_rows.Symbol.{name as #all-rows·fresh-rows}
 use Rattle.all_rows.proofs.fresh_rows.Met as fresh-rows-thm
 use Rattle.lent.specs.Entries.{freshRefusal, freshTurn, Freshened}
 use Rattle.lent.proofs.Entries.{all-there}
-use Rattle.rows.proofs.Lend.{Back, rows-lent, rows-lent-back, calls-lending}
+use Rattle.walks.proofs.Lend.{Back, rows-lent, rows-lent-back, calls-lending}
 use Rattle.fresh_tables.proofs.fresh_refusal as fresh-refusal
 use Rattle.fresh_tables.proofs.fresh_refusal.Symbol as fresh-refusal-def
 use Rattle.fresh_tables.proofs.fresh_refusal.Symbol.{name as #fresh-tables·fresh-refusal}

@@ -52,8 +52,8 @@ use Rattle.block.specs.declared.Warp.{Warp}
 use Rattle.block.specs.Tables.{freshWarp}
 use Rattle.block.proofs.Warp as R
 use Rattle.block.proofs.Warp.Laws as R′
-use Rattle.rows.proofs.Walk.{is-false, forks, gone1, concluded, over}
-use Rattle.rows.proofs.Lend.{Back, rows-lent, rows-lent-back, calls-lending}
+use Rattle.walks.proofs.Walk.{is-false, forks, gone1, concluded, over}
+use Rattle.walks.proofs.Lend.{Back, rows-lent, rows-lent-back, calls-lending}
 use Rattle.gathering.specs.declared.Kept.{Kept}
 use Rattle.gathering.specs.Gathered.{keptAs, leftAs, enough}
 use Rattle.gathering.proofs.Kept as K

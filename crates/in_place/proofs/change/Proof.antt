@@ -57,8 +57,8 @@ use Rattle.barriers.specs.Steps.{releasedWarps}
 use Rattle.barriers.specs.Changes.{withStatus}
 use Rattle.barriers.proofs.Change as N
 use Rattle.barriers.proofs.Change.Laws as N′
-use Rattle.rows.proofs.Walk.{gone1, concluded, over}
-use Rattle.rows.proofs.Lend.{calls-lending}
+use Rattle.walks.proofs.Walk.{gone1, concluded, over}
+use Rattle.walks.proofs.Lend.{calls-lending}
 use Rattle.in_place.proofs.Field.{array-lent, array-lent-back, Barriers, Rows, barriers-kept, barriers-out, barriers-in, rows-kept, rows-out, rows-in}
 use Rattle.block_rows.proofs.put_barrier as put-barrier
 use Rattle.block_rows.proofs.put_barrier.Symbol as put-barrier-def

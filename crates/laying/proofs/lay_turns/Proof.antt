@@ -64,8 +64,8 @@ use Rattle.fields.specs.Num.{laid}
 use Rattle.tables.specs.declared.Tally.{Tally}
 use Rattle.tables.proofs.Tally as T
 use Rattle.tables.proofs.Tally.Laws as T′
-use Rattle.rows.proofs.Walk.{is-false, forks, gone1, concluded, over}
-use Rattle.rows.proofs.Lend.{Back, rows-shared, rows-shared-back, rows-lent, rows-lent-back, calls-lending}
+use Rattle.walks.proofs.Walk.{is-false, forks, gone1, concluded, over}
+use Rattle.walks.proofs.Lend.{Back, rows-shared, rows-shared-back, rows-lent, rows-lent-back, calls-lending}
 use Rattle.lent.proofs.Spelt.{R, vals-R}
 use Rattle.lent_step.proofs.Calls.{StepOf, calls-step}
 use Rattle.lent_step.proofs.step.Symbol as step-def

@@ -46,12 +46,12 @@ use Rattle.soundness.proofs.sound.Symbol as block-sound-def
 use Rattle.soundness.proofs.sound.Symbol.{name as #soundness·sound}
 use Rattle.soundness.proofs.sound.Met as block-sound-thm
 use Rattle.tables.specs.Tables.{soundObjects}
-use Rattle.rows.proofs.Walk.{calls-exact, gone1, concluded, over}
+use Rattle.walks.proofs.Walk.{calls-exact, gone1, concluded, over}
 use Rattle.all_rows.proofs.rows_sound as rows-sound
 use Rattle.all_rows.proofs.rows_sound.Symbol as rows-sound-def
 use Rattle.all_rows.proofs.rows_sound.Symbol.{name as #all-rows·rows-sound}
 use Rattle.all_rows.proofs.rows_sound.Met as rows-sound-thm
-use Rattle.rows.proofs.Lend.{rows-shared, rows-shared-back, calls-lending}
+use Rattle.walks.proofs.Lend.{rows-shared, rows-shared-back, calls-lending}
 use Rattle.lent.proofs.sound.Key.{name as #lent·sound}
 use Rattle.lent.proofs.sound as sound
 use Rattle.lent.proofs.sound.Statement as stated

@@ -57,7 +57,7 @@ use Rattle.agreement.proofs.agree as agree
 use Rattle.agreement.proofs.agree.Symbol as agree-def
 use Rattle.agreement.proofs.agree.Symbol.{name as #agreement·agree}
 use Rattle.agreement.proofs.agree.Met as agree-thm
-use Rattle.rows.proofs.Walk.{is-false, calls-exact, forks, gone1, concluded, over}
+use Rattle.walks.proofs.Walk.{is-false, calls-exact, forks, gone1, concluded, over}
 use Rattle.lent_agreement.specs.Agreement.{agreedIn}
 use Rattle.lent_agreement.proofs.Answers.{Warps, Rows, soundAt, wrong-length, too-few-sets, unsound-row, unlike-row, no-warp, next-warp, last-warp, no-row, next-row, last-row, atEnd, short-of, all-behind, holds, same-number, other-number}
 use Rattle.lent_agreement.proofs.Steps.{goes-on}

@@ -99,7 +99,7 @@ use Rattle.lent_survey.proofs.survey_of as survey-of
 use Rattle.lent_survey.proofs.survey_of.Symbol as survey-of-def
 use Rattle.lent_survey.proofs.survey_of.Symbol.{name as #lent-survey·survey-of}
 use Rattle.lent_survey.proofs.survey_of.Met as survey-of-thm
-use Rattle.rows.proofs.Walk.{says-too, calls-saying, calls-exact, gone1, concluded, over}
+use Rattle.walks.proofs.Walk.{says-too, calls-saying, calls-exact, gone1, concluded, over}
 use Rattle.all_rows.proofs.rows_sound as rows-sound
 use Rattle.all_rows.proofs.rows_sound.Symbol as rows-sound-def
 use Rattle.all_rows.proofs.rows_sound.Symbol.{name as #all-rows·rows-sound}
@@ -117,7 +117,7 @@ use Rattle.rows.proofs.count.Symbol as count-def
 use Rattle.rows.proofs.count.Symbol.{name as #rows·count}
 use Rattle.rows.proofs.count.Met as count-thm
 use Rattle.lent.specs.Entries.{tablesOf as tables-of, stateOf, Stepped}
-use Rattle.rows.proofs.Lend.{Back, part-shut, rows-shared, rows-shared-back, rows-lent, rows-lent-back, record-lent, record-lent-back, calls-lending}
+use Rattle.walks.proofs.Lend.{Back, part-shut, rows-shared, rows-shared-back, rows-lent, rows-lent-back, record-lent, record-lent-back, calls-lending}
 use Rattle.lent.proofs.slot as slot
 use Rattle.lent.proofs.slot.Symbol as slot-def
 use Rattle.lent.proofs.slot.Symbol.{name as #lent·slot}

@@ -64,9 +64,9 @@ use Rattle.soundness.specs.declared.Survey.{Survey}
 use Rattle.soundness.specs.Seen.{nothingSeen, surveyOf}
 use Rattle.soundness.proofs.Survey as X
 use Rattle.soundness.proofs.Survey.Laws as X′
-use Rattle.rows.proofs.Walk.{is-false, calls-exact, forks, gone1, concluded, over}
-use Rattle.rows.proofs.Lend.{Back, part-shut, rows-shared, rows-shared-back, rows-lent, rows-lent-back, calls-lending}
-use Rattle.rows.proofs.Lend2.{calls-lending2}
+use Rattle.walks.proofs.Walk.{is-false, calls-exact, forks, gone1, concluded, over}
+use Rattle.walks.proofs.Lend.{Back, part-shut, rows-shared, rows-shared-back, rows-lent, rows-lent-back, calls-lending}
+use Rattle.walks.proofs.Lend2.{calls-lending2}
 use Rattle.in_place.proofs.Field.{Barriers, Rows, barriers-kept, barriers-out, barriers-in, rows-kept, rows-out, rows-in}
 use Rattle.spare_rows.specs.Spare.{allSpare}
 use Rattle.gathering.specs.Gathered.{allNoted, notedAll, emptySets}

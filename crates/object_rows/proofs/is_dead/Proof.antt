@@ -42,7 +42,7 @@ use Rattle.object.specs.Soundness.{Widths, deadSound}
 use Rattle.object.proofs.Signed.{zero-bits}
 use Rattle.object.proofs.Object as O
 use Rattle.object.proofs.Object.Laws as O′
-use Rattle.rows.proofs.Walk.{calls-exact, gone1, concluded, over}
+use Rattle.walks.proofs.Walk.{calls-exact, gone1, concluded, over}
 use Rattle.object_rows.proofs.unset as unset
 use Rattle.object_rows.proofs.unset.Symbol as unset-def
 use Rattle.object_rows.proofs.unset.Symbol.{name as #object-rows·unset}

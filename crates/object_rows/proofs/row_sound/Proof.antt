@@ -50,8 +50,8 @@ use Rattle.object.proofs.row_outside as row-outside
 use Rattle.object.proofs.row_outside.Symbol as row-outside-def
 use Rattle.object.proofs.row_outside.Symbol.{name as #object·row-outside}
 use Rattle.object.proofs.row_outside.Met as row-outside-thm
-use Rattle.rows.proofs.Walk.{is-false, big-lit, calls-exact, forks, gone1, concluded, over}
-use Rattle.rows.proofs.Lend.{part-shut, record-shared, record-shared-back, calls-lending}
+use Rattle.walks.proofs.Walk.{is-false, big-lit, calls-exact, forks, gone1, concluded, over}
+use Rattle.walks.proofs.Lend.{part-shut, record-shared, record-shared-back, calls-lending}
 use Rattle.object_rows.proofs.is_dead as is-dead
 use Rattle.object_rows.proofs.is_dead.Symbol as is-dead-def
 use Rattle.object_rows.proofs.is_dead.Symbol.{name as #object-rows·is-dead}

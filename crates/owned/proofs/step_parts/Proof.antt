@@ -45,7 +45,7 @@ use Rattle.block.proofs.Verdict.Laws as E′
 use Rattle.tables.specs.declared.Tally.{Tally}
 use Rattle.tables.proofs.Tally as T
 use Rattle.tables.proofs.Tally.Laws as T′
-use Rattle.rows.proofs.Walk.{calls-exact, gone1, concluded, over}
+use Rattle.walks.proofs.Walk.{calls-exact, gone1, concluded, over}
 use Rattle.lent.specs.Entries.{stateOf, Stepped}
 use Rattle.owned.specs.Owner.{bundled, ownedStep}
 use Rattle.owned.proofs.OwnedTurn as G

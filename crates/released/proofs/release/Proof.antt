@@ -58,7 +58,7 @@ use Rattle.barrier_row.proofs.result_of.Symbol as result-of-def
 use Rattle.barrier_row.proofs.result_of.Symbol.{name as #barrier-row·result-of}
 use Rattle.barrier_row.proofs.result_of.Met as result-of-thm
 use Rattle.barriers.specs.Steps.{releasedWarps}
-use Rattle.rows.proofs.Walk.{calls-exact, forks, gone1, concluded, over}
+use Rattle.walks.proofs.Walk.{calls-exact, forks, gone1, concluded, over}
 use Rattle.released.proofs.Rows.{firsts-none, length-firsts, firsts-next, freedRow, freedTo, freed-all, none-freed}
 use Rattle.released.proofs.freed_at as freed-at
 use Rattle.released.proofs.freed_at.Symbol as freed-at-def

@@ -41,7 +41,7 @@ use Rattle.tables.specs.declared.Tally.{Tally}
 use Rattle.tables.specs.Tables.{tallied}
 use Rattle.tables.proofs.Tally as T
 use Rattle.tables.proofs.Tally.Laws as T′
-use Rattle.rows.proofs.Walk.{calls-exact, gone1, concluded, over}
+use Rattle.walks.proofs.Walk.{calls-exact, gone1, concluded, over}
 use Rattle.tables.proofs.add as add
 use Rattle.tables.proofs.add.Symbol as add-def
 use Rattle.tables.proofs.add.Symbol.{name as #tables·add}

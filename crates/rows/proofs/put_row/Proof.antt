@@ -41,7 +41,7 @@ use Rattle.object.specs.declared.Object.{Object}
 use Rattle.object.specs.Row.{dead}
 use Rattle.object.proofs.Object as O
 use Rattle.object.proofs.Object.Laws as O′
-use Rattle.rows.proofs.Walk.{forks, gone1, concluded, over}
+use Rattle.walks.proofs.Walk.{forks, gone1, concluded, over}
 use Rattle.rows.proofs.put_row.Key.{name as #rows·put-row}
 use Rattle.rows.proofs.put_row as put-row
 use Rattle.rows.proofs.put_row.Statement as stated

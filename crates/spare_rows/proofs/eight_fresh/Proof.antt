@@ -50,7 +50,7 @@ use Rattle.block.specs.declared.Warp.{Warp}
 use Rattle.block.specs.Tables.{mostWarps, freshWarp}
 use Rattle.block.proofs.Warp as R
 use Rattle.block.proofs.Warp.Laws as R′
-use Rattle.rows.proofs.Walk.{calls-exact, gone1, concluded, over}
+use Rattle.walks.proofs.Walk.{calls-exact, gone1, concluded, over}
 use Rattle.spare_rows.specs.Spare.{isFresh}
 use Rattle.block.proofs.is_fresh as is-fresh
 use Rattle.block.proofs.is_fresh.Symbol as is-fresh-def

@@ -51,8 +51,8 @@ use Rattle.block.specs.declared.Warp.{Warp}
 use Rattle.block.specs.Tables.{mostWarps, freshWarp}
 use Rattle.block.proofs.Warp as R
 use Rattle.block.proofs.Warp.Laws as R′
-use Rattle.rows.proofs.Walk.{is-false, calls-exact, forks, gone1, concluded, over}
-use Rattle.rows.proofs.Lend.{rows-shared, rows-shared-back, calls-lending}
+use Rattle.walks.proofs.Walk.{is-false, calls-exact, forks, gone1, concluded, over}
+use Rattle.walks.proofs.Lend.{rows-shared, rows-shared-back, calls-lending}
 use Rattle.spare_rows.specs.Spare.{isFresh, allSpare}
 use Rattle.spare_rows.proofs.Spare.{other-length, used-eight, used-row, every-row, St, none-yet, eight-more, one-more}
 use Rattle.block.proofs.is_fresh as is-fresh
