@@ -1,20 +1,20 @@
--- Laws of sets of warps as masks: what a set has after a union, a meet and a put; sets that have the same are the same; parts; sizes.
+-- Laws of sets of warps as masks: what a set has after a union, a meet, and with a warp put in or taken out; sets that have the same are the same; parts; sizes.
 -- Assumes nothing.
 use mathlib.Core.Path.{_≡_, refl, sym, ap, ap₂, _∙_, subst}
-use mathlib.Core.Bool.{Bool, true, false, _&&_, _||_, or-false, or-true}
+use mathlib.Core.Bool.{Bool, true, false, not, cond, _&&_, _||_, or-false, or-true, and-true, and-false, false≢true}
 use mathlib.Core.Logic.{⊎-elim}
 use Prim.Native.Nat.{ℕ, zero, suc, _+_, _-_, _*_, _/_, _%_, _^_, _<_, _≤_, min}
-use native.Mathlib.Nat.{mod-lt, mod-one, mul-comm, mul-assoc, one-mul, add-comm, pow-suc, mul-mod-left, mod-eq-of-lt, div-eq-of-lt, not-suc-le-zero, le-of-suc-le-suc, eq-or-lt-of-le, lt-of-lt-of-le, add-zero, add-suc, zero-mul}
+use native.Mathlib.Nat.{mod-lt, mod-one, mul-comm, mul-assoc, one-mul, add-comm, pow-suc, mul-mod-left, mod-eq-of-lt, div-eq-of-lt, not-suc-le-zero, le-of-suc-le-suc, eq-or-lt-of-le, lt-of-lt-of-le, lt-of-le-of-lt, add-zero, add-suc, zero-mul}
 use native.Mathlib.Numerals.{add-one, one-add}
 use native.Mathlib.Omega.{arith}
 use lib.Arith.{bin-ind, lt-of-le-ne, lt-one}
-use lib.Bits.{bitAnd, and-step, and-self, and-lt, and-mask, bitOr, and-shr, and-mod, or-shr, or-mod, or-lt}
+use lib.Bits.{bitAnd, and-step, and-self, and-lt, and-mask, bitOr, bitXor, and-le-l, and-le-r, and-shr, and-mod, or-shr, or-mod, or-lt, xor-shr, xor-mod, xor-add-and}
 use lib.Count.{ones, onesIn, ones-step, ones-cat}
 use lib.Dec.{eqb, ltb, lit<}
 use lib.Pow.{recompose, field, mod-mod-pow, pow-pos, pow-lt, pow-mono, pow-add, mod-pow-add, shl-exact, shl-shr, high, low}
 use mir.Val.{boolByte}
 use borrow.Author.Tests.{eq-eqb, ne-eqb, eqb-true, eqb-false, lt-ltb, ltb-true, ltb-false}
-use Rattle.sets.specs.Sets.{digit, has, put, part, within, sizeBelow, size, setOf}
+use Rattle.sets.specs.Sets.{digit, has, put, less, part, within, sizeBelow, size, setOf}
 
 -- ---- digits
 
@@ -67,6 +67,14 @@ has-none w = rw (div-eq-of-lt (pow-pos w))
 -- a set of n digits has no warp from n on
 pub has-high : (n s w : ℕ) → s < 2 ^ n → n ≤ w → has s w ≡ false
 has-high n s w l h = rw (div-eq-of-lt (lt-of-lt-of-le l (pow-mono h)))
+
+-- so the warps that it has are below n
+pub has-below : (n s w : ℕ) → s < 2 ^ n → has s w ≡ true → w < n
+has-below n s w l e = go (ltb w n) refl
+  where
+    go : (t : Bool) → ltb w n ≡ t → w < n
+    go true q = ltb-true w n q
+    go false q = absurd (false≢true (sym (has-high n s w l (ltb-false w n q)) ∙ e))
 
 bit-own : (w : ℕ) → bit (2 ^ w) w ≡ 1
 bit-own w = ap (λ (x : ℕ). x / 2 ^ w % 2) (sym (one-mul (2 ^ w))) ∙ ap (λ (x : ℕ). x % 2) (shl-shr 1 w)
@@ -146,6 +154,63 @@ ext (suc n) a b ha hb h =
     (ext n (a % 2 ^ n) (b % 2 ^ n) (mod-lt a (pow-pos n)) (mod-lt b (pow-pos n))
     (λ w l. has-low n a w l ∙ h w (omega arith) ∙ sym (has-low n b w l)))
     ∙ whole n b hb
+
+-- ---- a warp taken out
+
+bit-xor : (a b w : ℕ) → bit (bitXor a b) w ≡ bitXor (bit a w) (bit b w)
+bit-xor a b w = ap (λ (x : ℕ). x % 2) (xor-shr a b w) ∙ xor-mod (a / 2 ^ w) (b / 2 ^ w) 1
+
+xor-digits : (x y : ℕ) → x < 2 → y < 2 → (eqb y 1 ≡ true → eqb x 1 ≡ true) → eqb (bitXor x y) 1 ≡ eqb x 1 && not (eqb y 1)
+xor-digits x y hx hy =
+    digit-cases (λ (x : ℕ). (eqb y 1 ≡ true → eqb x 1 ≡ true) → eqb (bitXor x y) 1 ≡ eqb x 1 && not (eqb y 1))
+    (digit-cases (λ (y : ℕ). (eqb y 1 ≡ true → eqb 0 1 ≡ true) → eqb (bitXor 0 y) 1 ≡ eqb 0 1 && not (eqb y 1)) (λ h. refl) (λ h. sym (h refl)) y hy)
+    (digit-cases (λ (y : ℕ). (eqb y 1 ≡ true → eqb 1 1 ≡ true) → eqb (bitXor 1 y) 1 ≡ eqb 1 1 && not (eqb y 1)) (λ h. refl) (λ h. refl) y hy) x hx
+
+-- a set without its part has what the part has not
+has-xor : (a b w : ℕ) → (has b w ≡ true → has a w ≡ true) → has (bitXor a b) w ≡ has a w && not (has b w)
+has-xor a b w h = ap (λ (x : ℕ). eqb x 1) (bit-xor a b w) ∙ xor-digits (bit a w) (bit b w) (bit-lt a w) (bit-lt b w) h
+
+module _ (s w : ℕ) (h : has s w ≡ true) where
+  -- w is one of the set
+  one-in : (v : ℕ) → has (2 ^ w) v ≡ true → has s v ≡ true
+  one-in v e = rw (eqb-true v w (sym (has-one w v) ∙ e)) h
+
+  meets-one : bitAnd s (2 ^ w) ≡ 2 ^ w
+  meets-one =
+      ext (suc w) (bitAnd s (2 ^ w)) (2 ^ w) (lt-of-le-of-lt (and-le-r s (2 ^ w)) (pow-lt (omega arith))) (pow-lt (omega arith))
+      (λ v l. has-and s (2 ^ w) v ∙ go v (has (2 ^ w) v) refl)
+    where
+      go : (v : ℕ) (t : Bool) → has (2 ^ w) v ≡ t → has s v && has (2 ^ w) v ≡ has (2 ^ w) v
+      go v true e = rw (e, one-in v e)
+      go v false e = rw e (and-false (has s v))
+
+  -- a mask is at least each of its digits
+  pub digit-le : 2 ^ w ≤ s
+  digit-le = omega (arith, meets-one, and-le-l s (2 ^ w))
+
+  -- so the set without w is the mask less that digit
+  taken-out : bitXor s (2 ^ w) ≡ s - 2 ^ w
+  taken-out = omega (arith, meets-one, xor-add-and s (2 ^ w))
+
+-- without w it has its other warps
+pub has-less : (s w v : ℕ) → has (less s w) v ≡ has s v && not (eqb v w)
+has-less s w v = go (has s w) refl
+  where
+    other : (t : Bool) → eqb v w ≡ t → has s w ≡ false → has s v ≡ has s v && not t
+    other true e f = rw (eqb-true v w e, f)
+    other false e f = sym (and-true (has s v))
+
+    go : (t : Bool) → has s w ≡ t → has (cond t (s - 2 ^ w) s) v ≡ has s v && not (eqb v w)
+    go true e = ap (λ (x : ℕ). has x v) (sym (taken-out s w e)) ∙ has-xor s (2 ^ w) v (one-in s w e v) ∙ rw (has-one w v)
+    go false e = other (eqb v w) refl e
+
+-- a mask of n digits keeps n digits
+pub less-lt : (n s w : ℕ) → s < 2 ^ n → less s w < 2 ^ n
+less-lt n s w h = go (has s w)
+  where
+    go : (t : Bool) → cond t (s - 2 ^ w) s < 2 ^ n
+    go true = omega arith
+    go false = h
 
 -- ---- parts
 

@@ -1,7 +1,7 @@
 -- Sets of warps as masks of 32 digits, warp 0 lowest.
 -- Assumes nothing.
 use mathlib.Core.Bool.{Bool, true, false, cond}
-use Prim.Native.Nat.{ℕ, zero, suc, _+_, _*_, _/_, _%_, _^_}
+use Prim.Native.Nat.{ℕ, zero, suc, _+_, _-_, _*_, _/_, _%_, _^_}
 use lib.Dec.{eqb, ltb}
 use lib.Bits.{bitAnd, bitOr}
 
@@ -17,6 +17,10 @@ has set w = eqb (set / 2 ^ w % 2) 1
 -- the set with warp w in it; a mask has no place above 31
 abbrev pub put : ℕ → ℕ → ℕ
 put set w = cond (ltb w 32) (bitOr set (2 ^ w)) set
+
+-- the set without warp w
+abbrev pub less : ℕ → ℕ → ℕ
+less set w = cond (has set w) (set - 2 ^ w) set
 
 -- each warp of a is one of b
 abbrev pub part : ℕ → ℕ → Bool

@@ -1,7 +1,7 @@
-// Sets of warps as u32 masks, warp 0 lowest: has, put, part, within, size. Each takes any set and any warp.
+// Sets of warps as u32 masks, warp 0 lowest: has, put, less, part, within, size. Each takes any set and any warp.
 ghost use mathlib.Core.Path.{_≡_};
 ghost use Prim.Native.Nat.{_-_, _^_, min};
-ghost use Rattle.sets.specs.Sets.{has as hasOf, put as putOf, part as partOf, within as withinOf, size as sizeOf};
+ghost use Rattle.sets.specs.Sets.{has as hasOf, put as putOf, less as lessOf, part as partOf, within as withinOf, size as sizeOf};
 
 // The set of all 32 warps.
 const ALL: u32 = 4294967295;
@@ -22,6 +22,17 @@ pub fn put(set: u32, w: u8) -> u32
     ensures { λ r. ⌜ r ≡ putOf set w ⌝ }
 {
     if w < 32 { set | (1 << (w as u32)) } else { set }
+}
+
+// The set without warp w.
+pub fn less(set: u32, w: u8) -> u32
+    ensures { λ r. ⌜ r ≡ lessOf set w ⌝ }
+{
+    if has(set, w) {
+        set - (1 << (w as u32))
+    } else {
+        set
+    }
 }
 
 // Whether each warp of a is one of b.
