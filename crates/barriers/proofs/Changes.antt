@@ -147,13 +147,13 @@ both-ways false false f g = refl
 
 module _ (b : Block) (w : ℕ) (l : length (b .rows) ≡ mostWarps) where
   -- the live warps of the block without w are those of the block, less w
-  live-other : (v : ℕ) → v < mostWarps → (v ≡ w → ⊥) → has (liveOf (without b w)) v ≡ has (liveOf b) v
+  pub live-other : (v : ℕ) → v < mostWarps → (v ≡ w → ⊥) → has (liveOf (without b w)) v ≡ has (liveOf b) v
   live-other v h d =
       has-setOf _ mostWarps v h
       ∙ ap (λ (x : Warp). ltb v (b .warps) && not (isExited (x .status))) (getD-set-other (b .rows) w v _ freshWarp d)
       ∙ sym (has-setOf _ mostWarps v h)
 
-  live-own : w < mostWarps → has (liveOf (without b w)) w ≡ false
+  pub live-own : w < mostWarps → has (liveOf (without b w)) w ≡ false
   live-own h =
       has-setOf _ mostWarps w h
       ∙ ap (λ (x : Warp). ltb w (b .warps) && not (isExited (x .status))) (getD-set-same (b .rows) w _ freshWarp (rw l h))

@@ -10,9 +10,9 @@ use lib.Dec.{ltb}
 use lib.ListN.{getD, set}
 use lib.Pow.{pow-pos}
 use lib.Seq.{getD-set-same, getD-set-other}
-use borrow.Author.Tests.{ne-eqb, eqb-true, lt-ltb, ltb-true, ltb-false}
+use borrow.Author.Tests.{ne-eqb, eqb-true, lt-ltb}
 use Rattle.sets.specs.Sets.{has}
-use Rattle.sets.proofs.Sets.{has-none, has-high, setOf-cong}
+use Rattle.sets.proofs.Sets.{has-none, has-below, setOf-cong}
 use Rattle.block.specs.Tables.{mostWarps, barrierCount, freshWarp, idle, warpAt, barrierAt, isReady, isExited, waitsAt, liveOf, warpSound, soundBlock}
 use Rattle.barrier_row.specs.Rows.{releasedWarp}
 use Rattle.barriers.specs.Steps.{releasedWarps, completed}
@@ -22,8 +22,16 @@ use Rattle.block.specs.declared.Warp.{Warp}
 use Rattle.block.specs.declared.Barrier.{Barrier}
 use Rattle.block.specs.declared.Block.{Block}
 use Rattle.block_laws.specs.Sound.{Shaped}
-use Rattle.block_laws.proofs.General.{by-test, untrue, getD-firsts}
+use Rattle.block_laws.proofs.General.{untrue, getD-firsts, firsts-either}
 use Rattle.block_laws.proofs.Facts.{Row, Missing, SoundBut, SoundAt, sound-of}
+
+-- ---- who has not exited
+
+-- where the same warps have exited, the same have not, whatever the barrier rows are
+pub same-live : (b : Block) (ws : List Warp)
+    → ((v : ℕ) → v < mostWarps → isExited (getD ws v freshWarp .status) ≡ isExited (warpAt b v .status))
+    → liveOf (record { warps = b .warps; rows = ws; barriers = b .barriers }) ≡ liveOf b
+same-live b ws h = setOf-cong _ _ mostWarps (λ v l. ap (λ (t : Bool). ltb v (b .warps) && not t) (h v l))
 
 -- ---- one barrier row and the warp rows change
 
@@ -50,7 +58,7 @@ module _ (b : Block) (k : ℕ) (r : Barrier) (ws : List Warp) (shape : Shaped b)
   other j d = getD-set-other (b .barriers) k j r idle d
 
   live : liveOf after ≡ liveOf b
-  live = setOf-cong _ _ mostWarps (λ v h. ap (λ (t : Bool). ltb v (b .warps) && not t) (moves v h .exited))
+  live = same-live b ws (λ v h. moves v h .exited)
 
   but : SoundBut after k
   but = record {
@@ -83,10 +91,19 @@ free-away Ready j k e d = refl
 free-away (Waiting at) j k e d = ne-eqb at j (λ q. d (sym q ∙ eqb-true at k e))
 free-away Exited j k e d = refl
 
--- a set of n digits has warps below n alone
-has-below : (n set v : ℕ) → set < 2 ^ n → has set v ≡ true → v < n
-has-below n set v l e =
-    by-test (ltb v n) (ltb-true v n) (λ q. absurd (false≢true (sym (has-high n set v l (ltb-false v n q)) ∙ e)))
+-- where every warp that it releases was so, the same have not exited
+pub completed-live : (b : Block) (k : ℕ) (r : Barrier)
+    → ((v : ℕ) → v < mostWarps → has (r .waiting) v ≡ true → isReady (warpAt b v .status) || waitsAt (warpAt b v .status) k ≡ true)
+    → liveOf (completed b k r .block) ≡ liveOf b
+completed-live b k r frees =
+    same-live b (releasedWarps r (b .rows))
+    (λ v h. firsts-either (λ (x : Warp). isExited (x .status) ≡ isExited (warpAt b v .status)) _ (b .rows) mostWarps 0 v freshWarp refl
+    (rw zero-add (go v h (has (r .waiting) v) refl)))
+  where
+    go : (v : ℕ) → v < mostWarps → (t : Bool) → has (r .waiting) v ≡ t
+        → isExited (cond t (releasedWarp r (warpAt b v)) (warpAt b v) .status) ≡ isExited (warpAt b v .status)
+    go v h true e = sym (free-exited (warpAt b v .status) k (frees v h e))
+    go v h false e = refl
 
 -- the row that a completed barrier gets
 pub idle-row : (n : ℕ) → Row n idle

@@ -1,30 +1,36 @@
--- What a step completes and releases, and what it leaves as it was.
+-- What a step completes and releases, what it leaves as it was, and who has not exited after it.
 -- Assumes nothing.
 use mathlib.Core.Path.{_≡_, refl, sym, _∙_}
-use mathlib.Core.Bool.{Bool, true, false, cond, false≢true}
+use mathlib.Core.Bool.{Bool, true, false, not, cond, _&&_, and-true, and-false, false≢true}
 use Prim.Native.Nat.{ℕ, _<_}
+use native.Mathlib.Decide.{ℕ-discrete}
 use native.Mathlib.Nat.{zero-add}
 use native.Mathlib.Omega.{arith}
+use lib.Dec.{eqb}
 use lib.ListN.{getD, set}
 use lib.Seq.{getD-set-other}
-use borrow.Author.Tests.{eqb-true}
+use borrow.Author.Tests.{eq-eqb, ne-eqb, eqb-true}
 use Rattle.folds.proofs.Folds.{every-at}
-use Rattle.sets.specs.Sets.{has}
-use Rattle.block.specs.Tables.{mostWarps, barrierCount, freshWarp, idle, warpAt, barrierAt, soundBlock}
+use Rattle.sets.specs.Sets.{has, less}
+use Rattle.sets.proofs.Sets.{has-less, less-lt, setOf-lt, ext}
+use Rattle.block.specs.Tables.{mostWarps, barrierCount, freshWarp, idle, warpAt, barrierAt, isExited, liveOf, soundBlock}
 use Rattle.barrier_row.specs.Rows.{arrivedRow, resultOf, releasedWarp}
-use Rattle.barriers.specs.Steps.{completed, arrival, without, opens, opened, exit}
+use Rattle.barriers.proofs.Changes.{live-other, live-own}
+use Rattle.barriers.specs.Steps.{completed, goesOn, arrival, without, opens, opened, exit}
+use Rattle.block.specs.declared.Status.the-variants.{Ready, Waiting}
 use Rattle.block.specs.declared.Warp.{Warp}
 use Rattle.block.specs.declared.Barrier.{Barrier}
 use Rattle.block.specs.declared.Block.{Block}
 use Rattle.block.specs.declared.Verdict.the-variants.{Accepted}
 use Rattle.block_laws.specs.Sound.{Shaped}
-use Rattle.block_laws.specs.Changes.{LeavesRefused, RefusedLeave, ExitCompletesOne, Releases, ArrivalReleases, ReleasesSet, ArriveReleases, ExitReleases, ReleasesNone, NoneReleased, GivesResults, ResultsGiven, LeavesRow, RowsLeft, CountedSurvive, LeavesWarp, WarpsLeft}
-use Rattle.block_laws.proofs.General.{first-holds, firsts-leaves}
+use Rattle.block_laws.specs.Changes.{LeavesRefused, RefusedLeave, ExitCompletesOne, Releases, ArrivalReleases, ReleasesSet, ArriveReleases, ExitReleases, ReleasesNone, NoneReleased, GivesResults, ResultsGiven, LeavesRow, RowsLeft, CountedSurvive, LeavesWarp, WarpsLeft, ArrivalKeepsLive, ExitTakesOut}
+use Rattle.block_laws.proofs.General.{first-holds, firsts-leaves, set-either}
 use Rattle.block_laws.proofs.Facts.{Free, sound-at, sound-but, free-says}
 use Rattle.block_laws.proofs.Ends.{arrival-ends, exit-ends}
 use Rattle.block_laws.proofs.Arrived.{has-grown}
-use Rattle.block_laws.proofs.Changed.{released-at}
-use Rattle.block_laws.proofs.Exit.{opens-one, left-shape}
+use Rattle.block_laws.proofs.Changed.{same-live, completed-live, released-at}
+use Rattle.block_laws.proofs.Arrival.{arrived-free}
+use Rattle.block_laws.proofs.Exit.{opens-one, left-shape, left-free}
 
 -- ---- refusal
 
@@ -138,3 +144,36 @@ warps-left = record {
       ∙ getD-set-other (b .rows) w v _ freshWarp d)
       (λ f l value released done e h. getD-set-other (b .rows) w v _ freshWarp d);
 }
+
+-- ---- who has not exited
+
+-- an arrival that goes on is of a ready warp, which has not exited before or after
+goes-on-live : (b : Block) (k : ℕ) (r : Barrier) (w : ℕ) (t : Bool) → warpAt b w .status ≡ Ready → liveOf (goesOn b k r w t .block) ≡ liveOf b
+goes-on-live b k r w true e =
+    same-live b (set (b .rows) w (record { status = Waiting k; result = warpAt b w .result }))
+    (λ v h. set-either (λ (x : Warp). isExited (x .status) ≡ isExited (warpAt b v .status)) (b .rows) w v _ freshWarp refl (λ q. rw (q, e)))
+goes-on-live b k r w false e = refl
+
+pub arrival-keeps-live : ArrivalKeepsLive
+arrival-keeps-live b w k c ok =
+    arrival-ends (λ t. liveOf (t .block) ≡ liveOf b) b w k c (λ n. refl)
+    (λ j. completed-live b k (arrivedRow (barrierAt b k) w c) (arrived-free b w k c ok j))
+    (λ j o. goes-on-live b k (arrivedRow (barrierAt b k) w c) w (c .waits) (j .free .ready))
+
+-- who has not exited without w: the others
+left-live : (b : Block) (w : ℕ) → Shaped b → liveOf (without b w) ≡ less (liveOf b) w
+left-live b w shape =
+    ext mostWarps (liveOf (without b w)) (less (liveOf b) w) (setOf-lt _ mostWarps) (less-lt mostWarps (liveOf b) w (setOf-lt _ mostWarps))
+    (λ v h. go v h (ℕ-discrete v w) ∙ sym (has-less (liveOf b) w v))
+  where
+    go : (v : ℕ) → v < mostWarps → Dec (v ≡ w) → has (liveOf (without b w)) v ≡ has (liveOf b) v && not (eqb v w)
+    go v h (yes q) = rw (q, eq-eqb w w refl) (live-own b w (shape .rows) (rw q at h) ∙ sym (and-false (has (liveOf b) w)))
+    go v h (no d) = live-other b w (shape .rows) v h d ∙ rw (ne-eqb v w d) (sym (and-true (has (liveOf b) v)))
+
+pub exit-takes-out : ExitTakesOut
+exit-takes-out b w shape ok =
+    exit-ends (λ t. (value released : ℕ) (done : Bool) → t .verdict ≡ Accepted value done released → liveOf (t .block) ≡ less (liveOf b) w)
+    b w (λ n value released done e. cc)
+    (λ f l value released done e.
+    completed-live (without b w) (opened (without b w)) (barrierAt b (opened (without b w))) (left-free b w ok f shape l) ∙ left-live b w shape)
+    (λ f l value released done e. left-live b w shape)

@@ -1,7 +1,7 @@
 -- An exit completes at most one barrier, and an accepted exit keeps sound tables sound.
 -- Assumes nothing.
 use mathlib.Core.Path.{_≡_, refl, sym, ap, _∙_}
-use mathlib.Core.Bool.{true, false, or-true, false≢true}
+use mathlib.Core.Bool.{true, false, _||_, or-true, false≢true}
 use Prim.Native.Nat.{ℕ, _<_, _≤_}
 use native.Mathlib.Decide.{ℕ-discrete}
 use native.Mathlib.Omega.{arith}
@@ -142,11 +142,15 @@ module _ (b : Block) (w : ℕ) (ok : soundBlock b ≡ true) (free : Free b w) wh
       };
     }
 
+    -- the warps that wait at the barrier that it completes wait there after it
+    pub left-free : opened left < barrierCount → (v : ℕ) → v < mostWarps → has (barrierAt left (opened left) .waiting) v ≡ true
+        → isReady (warpAt left v .status) || waitsAt (warpAt left v .status) (opened left) ≡ true
+    left-free l v h e = rw (sym (left-agree (opened left) v l h (ℕ-discrete v w)) ∙ e) (or-true (isReady (warpAt left v .status)))
+
     pub exit-completed : opened left < barrierCount → soundBlock (completed left (opened left) (barrierAt left (opened left)) .block) ≡ true
     exit-completed l =
         completed-keeps left (opened left) (barrierAt left (opened left)) (left-shape b w shape) l left-but (sound-at b ok (opened left) l .row .waitingIn)
-        (λ v h e. rw (sym (left-agree (opened left) v l h (ℕ-discrete v w)) ∙ e) (or-true (isReady (warpAt left v .status))))
-        (λ v h e. left-agree (opened left) v l h (ℕ-discrete v w) ∙ e)
+        (left-free l) (λ v h e. left-agree (opened left) v l h (ℕ-discrete v w) ∙ e)
 
     pub exit-alone : barrierCount ≤ opened left → soundBlock left ≡ true
     exit-alone l = sound-of left (opened left) left-but (λ h. absurd (omega arith))

@@ -1,4 +1,4 @@
--- Laws of tests, of the first number of which a test holds, and of the changed first places of a list.
+-- Laws of tests, of the first number of which a test holds, and of the changed places of a list.
 -- Assumes nothing.
 use mathlib.Core.Path.{_≡_, refl, sym, ap, _∙_}
 use mathlib.Core.Bool.{Bool, true, false, not, cond, _&&_, _||_}
@@ -8,7 +8,7 @@ use Prim.Native.Nat.{ℕ, zero, suc, _+_, _<_, _≤_}
 use native.Mathlib.Nat.{not-suc-le-zero, le-of-suc-le-suc, eq-or-lt-of-le, add-zero, add-suc, suc-add}
 use native.Mathlib.Omega.{arith}
 use lib.Dec.{ltb}
-use lib.ListN.{length, getD}
+use lib.ListN.{length, getD, set}
 use borrow.Author.Tests.{ltb-true, ltb-false}
 use Rattle.folds.specs.Folds.{first, firsts}
 
@@ -102,11 +102,26 @@ getD-firsts f (x ∷ l) (suc n) i zero d h m = rw add-zero
 getD-firsts f (x ∷ l) (suc n) i (suc v) d h m =
     getD-firsts f l n (suc i) v d (le-of-suc-le-suc h) (le-of-suc-le-suc m) ∙ rw (suc-add, ← add-suc)
 
+-- a place is the changed place, or the place as it was
+pub firsts-either : {A : Type 0} (P : A → Type 0) (f : ℕ → A → A) (l : List A) (n i v : ℕ) (d : A) → P (getD l v d) → P (f (i + v) (getD l v d))
+    → P (getD (firsts n i f l) v d)
+unfolding firsts
+firsts-either P f l zero i v d p q = p
+firsts-either P f [] (suc n) i v d p q = p
+firsts-either P f (x ∷ l) (suc n) i zero d p q = rw add-zero at q
+firsts-either P f (x ∷ l) (suc n) i (suc v) d p q = firsts-either P f l n (suc i) v d p (rw (suc-add, ← add-suc) q)
+
 -- a place that the change leaves
 pub firsts-leaves : {A : Type 0} (f : ℕ → A → A) (l : List A) (n i v : ℕ) (d : A) → ((x : A) → f (i + v) x ≡ x)
     → getD (firsts n i f l) v d ≡ getD l v d
-unfolding firsts
-firsts-leaves f l zero i v d h = refl
-firsts-leaves f [] (suc n) i v d h = refl
-firsts-leaves f (x ∷ l) (suc n) i zero d h = rw add-zero at (h x)
-firsts-leaves f (x ∷ l) (suc n) i (suc v) d h = firsts-leaves f l n (suc i) v d (λ y. rw (suc-add, ← add-suc) (h y))
+firsts-leaves f l n i v d h = firsts-either (λ y. y ≡ getD l v d) f l n i v d refl (h (getD l v d))
+
+-- ---- a stored place
+
+-- a place after a store is what was stored there, or the place as it was
+pub set-either : {A : Type 0} (P : A → Type 0) (l : List A) (i v : ℕ) (x d : A) → P (getD l v d) → (v ≡ i → P x) → P (getD (set l i x) v d)
+set-either P [] i v x d p q = p
+set-either P (y ∷ l) zero zero x d p q = q refl
+set-either P (y ∷ l) zero (suc v) x d p q = p
+set-either P (y ∷ l) (suc i) zero x d p q = p
+set-either P (y ∷ l) (suc i) (suc v) x d p q = set-either P l i v x d p (λ e. q (ap suc e))

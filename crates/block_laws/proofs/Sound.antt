@@ -74,7 +74,7 @@ fresh-sound n low high = sound-of (freshBlock n) barrierCount (fresh-but n low h
 pub arrival-keeps-sound : ArrivalKeepsSound
 arrival-keeps-sound b w k c shape asks ok =
     arrival-ends (λ t. soundBlock (t .block) ≡ true) b w k c (λ n. ok)
-    (arrival-completed b w k c shape asks ok) (arrival-goes-on b w k c shape asks ok)
+    (λ j. arrival-completed b w k c ok j shape asks) (λ j. arrival-goes-on b w k c ok j shape asks)
 
 pub exit-keeps-sound : ExitKeepsSound
 exit-keeps-sound b w shape ok =

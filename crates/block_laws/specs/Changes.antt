@@ -1,11 +1,11 @@
--- What is claimed of a step: what it completes and releases, and what it leaves as it was.
+-- What is claimed of a step: what it completes and releases, what it leaves as it was, and who has not exited after it.
 -- Assumes nothing.
 use mathlib.Core.Path.{_≡_}
 use mathlib.Core.Bool.{Bool, true, false, cond, _&&_, _||_}
 use Prim.Native.Nat.{ℕ, _<_}
 use lib.Dec.{eqb}
-use Rattle.sets.specs.Sets.{has}
-use Rattle.block.specs.Tables.{mostWarps, barrierCount, warpAt, barrierAt, isReduction, soundBlock}
+use Rattle.sets.specs.Sets.{has, less}
+use Rattle.block.specs.Tables.{mostWarps, barrierCount, warpAt, barrierAt, isReduction, liveOf, soundBlock}
 use Rattle.barriers.specs.Steps.{warpRefusal, arrival, without, opens, opened, exit}
 use Rattle.block.specs.declared.Status.the-variants.{Ready}
 use Rattle.block.specs.declared.Form.{Form}
@@ -104,3 +104,15 @@ LeavesWarp b v t =
 pub record WarpsLeft : Type 0 where
   pub arrival : (b : Block) (w k v : ℕ) (c : Call) → (v ≡ w → c .waits ≡ false) → LeavesWarp b v (arrival b w k c)
   pub exit : (b : Block) (w v : ℕ) → (v ≡ w → ⊥) → LeavesWarp b v (exit b w)
+
+-- ---- who has not exited
+
+-- an arrival leaves them as they were
+abbrev pub ArrivalKeepsLive : Type 0
+ArrivalKeepsLive = (b : Block) (w k : ℕ) (c : Call) → soundBlock b ≡ true → liveOf (arrival b w k c .block) ≡ liveOf b
+
+-- an exit that is accepted takes its own warp out of them, and nobody else
+abbrev pub ExitTakesOut : Type 0
+ExitTakesOut =
+    (b : Block) (w : ℕ) → Shaped b → soundBlock b ≡ true
+    → (value released : ℕ) (done : Bool) → exit b w .verdict ≡ Accepted value done released → liveOf (exit b w .block) ≡ less (liveOf b) w
