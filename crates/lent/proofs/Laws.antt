@@ -17,9 +17,10 @@ use Rattle.block.specs.declared.Verdict.the-variants.{Refused, Accepted}
 use Rattle.block.specs.Tables.{soundBlock, freshBlock}
 use Rattle.block_laws.proofs.Sound as block-laws
 use Rattle.tables.specs.declared.Tally.{Tally}
-use Rattle.tables.specs.Tables.{Tables, soundObjects, soundTables, viewOf, isAccepted, numberOf, counted, tallied, freshTables}
+use Rattle.tables.specs.Tables.{Tables, soundObjects, viewOf, isAccepted, numberOf, counted, tallied, freshTables}
 use Rattle.tables.specs.Refusals.{lines}
 use Rattle.tables.specs.Effect.{verdict}
+use Rattle.tables.specs.Laws.{Sound}
 use Rattle.tables.proofs.Laws.{refused-exactly, refused-leaves-all, objects-left}
 use Rattle.tables.proofs.Kept as kept
 use Rattle.lent.specs.Entries.{tablesOf, freshLines, freshRefusal, freshTurn}
@@ -50,7 +51,7 @@ pub others-left : OthersLeft
 others-left x s v b l y e i h = ap (λ z. getD z i dead) (e .objects) ∙ objects-left (x .tables) s i h
 
 pub keeps-sound : KeepsSound
-keeps-sound x s v b l y e shaped h = (λ i. soundTables (tablesOf (e .block i) (e .objects i))) ∙ kept.keeps-sound (x .tables) s shaped h
+keeps-sound x s v b l y e h = subst Sound (sym (λ i. tablesOf (e .block i) (e .objects i))) (kept.keeps-sound (x .tables) s h)
 
 -- ---- fresh tables
 
@@ -105,7 +106,7 @@ pub fresh-sound : FreshSound
 fresh-sound l₀ y₀ w r l y e h =
     let none = accepted-none (freshRefusal (length l₀) w) w (ap (λ z. isAccepted (z .verdict)) (sym (e .answer)) ∙ h) in
     let warps = some-warps (length l₀) w none in
-    rw (e .answer, e .objects, none, block-laws.fresh-sound w (warps .0) (warps .1), dead-sound w)
+    rw (e .answer, e .objects, none) (record { shaped = block-laws.shape-kept .fresh w; sound = rw (block-laws.fresh-sound w (warps .0) (warps .1), dead-sound w) })
 
 -- a block of no warps is not
 none-sound : soundBlock (freshBlock 0) ≡ false

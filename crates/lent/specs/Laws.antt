@@ -14,11 +14,11 @@ use Rattle.block.specs.declared.Block.{Block}
 use Rattle.block.specs.declared.Verdict.{Verdict}
 use Rattle.block.specs.declared.Verdict.the-variants.{Refused}
 use Rattle.block.specs.declared.Turn.{Turn}
-use Rattle.block_laws.specs.Sound.{Shaped}
 use Rattle.tables.specs.declared.Tally.{Tally}
 use Rattle.tables.specs.Tables.{soundTables, viewOf, slotOf, isAccepted, counted}
 use Rattle.tables.specs.Refusals.{lines}
 use Rattle.tables.specs.Effect.{State}
+use Rattle.tables.specs.Laws.{Sound}
 use Rattle.lent.specs.Entries.{tablesOf, Stepped, freshLines, Freshened}
 
 -- ---- a step
@@ -44,11 +44,11 @@ OthersLeft =
     (x : State) (s : Step) (v : Verdict) (b : Block) (l : List Object) (y : Tally) → Stepped x s v b l y
     → (i : ℕ) → (i ≡ slotOf (s .op) → ⊥) → getD l i dead ≡ getD (x .tables .objects) i dead
 
--- sound tables stay sound
+-- sound tables over 32 warp rows and sixteen barrier rows stay so
 abbrev pub KeepsSound : Type 0
 KeepsSound =
     (x : State) (s : Step) (v : Verdict) (b : Block) (l : List Object) (y : Tally) → Stepped x s v b l y
-    → Shaped (x .tables .block) → soundTables (x .tables) ≡ true → soundTables (tablesOf b l) ≡ true
+    → Sound (x .tables) → Sound (tablesOf b l)
 
 -- ---- fresh tables
 
@@ -58,11 +58,11 @@ FreshExactly =
     (l₀ : List Object) (y₀ : Tally) (w : ℕ) (r : Turn) (l : List Object) (y : Tally) → Freshened l₀ y₀ w r l y
     → (n : ℕ) → (r .verdict ≡ Refused n) ↔ Lowest (freshLines (length l₀) w) n
 
--- and sound where they are not refused
+-- and sound, over 32 warp rows and sixteen barrier rows, where they are not refused
 abbrev pub FreshSound : Type 0
 FreshSound =
     (l₀ : List Object) (y₀ : Tally) (w : ℕ) (r : Turn) (l : List Object) (y : Tally) → Freshened l₀ y₀ w r l y
-    → isAccepted (r .verdict) ≡ true → soundTables (tablesOf (r .block) l) ≡ true
+    → isAccepted (r .verdict) ≡ true → Sound (tablesOf (r .block) l)
 
 -- where they are, no list makes sound tables with the block that is answered
 abbrev pub NoneUnsound : Type 0

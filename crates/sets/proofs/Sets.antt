@@ -175,6 +175,7 @@ module _ (s w : ℕ) (h : has s w ≡ true) where
   one-in : (v : ℕ) → has (2 ^ w) v ≡ true → has s v ≡ true
   one-in v e = rw (eqb-true v w (sym (has-one w v) ∙ e)) h
 
+  -- so the two have w alone in common
   meets-one : bitAnd s (2 ^ w) ≡ 2 ^ w
   meets-one =
       ext (suc w) (bitAnd s (2 ^ w)) (2 ^ w) (lt-of-le-of-lt (and-le-r s (2 ^ w)) (pow-lt (omega arith))) (pow-lt (omega arith))

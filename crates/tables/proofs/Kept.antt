@@ -1,8 +1,8 @@
--- A step keeps sound tables sound, and leaves every barrier row but one.
+-- A step keeps sound tables sound, and so does a run; a step leaves every barrier row but one, and who has not exited after it.
 -- Assumes nothing.
 use mathlib.Core.Path.{_≡_, refl, ap}
-use mathlib.Core.Bool.{true}
-use mathlib.Core.List.{List}
+use mathlib.Core.Bool.{true, cond, and-false}
+use mathlib.Core.List.{List, [], _∷_}
 use Prim.Native.Nat.{ℕ, _/_, _<_}
 use native.Mathlib.Decide.{decLt, ℕ-discrete}
 use native.Mathlib.Omega.{arith}
@@ -12,6 +12,7 @@ use lib.ListN.{length, getD, set, length-set, List·getD-eq-default}
 use lib.Seq.{getD-set-same, getD-set-other}
 use Rattle.folds.specs.Folds.{all}
 use Rattle.folds.proofs.Folds.{and-left, and-right, all-at, all-of}
+use Rattle.sets.specs.Sets.{less}
 use Rattle.steps.specs.declared.BarrierStep.{BarrierStep}
 use Rattle.steps.specs.declared.BarrierStep.the-variants.{SyncAll, Sync, Arrive, RedAll, Red}
 use Rattle.steps.specs.declared.Op.{Op}
@@ -26,16 +27,19 @@ use Rattle.object.specs.Soundness.{soundRow}
 use Rattle.object.proofs.Soundness as kept
 use Rattle.block.specs.declared.Block.{Block}
 use Rattle.block.specs.declared.Threads.the-variants.{All, Given}
-use Rattle.block.specs.Tables.{barrierAt, soundBlock}
+use Rattle.block.specs.declared.Verdict.{Verdict}
+use Rattle.block.specs.declared.Verdict.the-variants.{Refused, Accepted}
+use Rattle.block.specs.Tables.{barrierAt, liveOf, soundBlock}
+use Rattle.barriers.specs.Steps as barriers
 use Rattle.block_laws.specs.Sound.{Shaped, Asks}
 use Rattle.block_laws.proofs.Sound as sound
 use Rattle.block_laws.proofs.Changes as changes
 use Rattle.tables.specs.declared.Taken.{Taken}
-use Rattle.tables.specs.Tables.{View, viewOf, slotOf, soundObjects}
+use Rattle.tables.specs.Tables.{View, viewOf, slotOf, soundObjects, isAccepted}
 use Rattle.tables.specs.Refusals.{callOf, actOf}
 use Rattle.tables.specs.Parts.{answered}
-use Rattle.tables.specs.Effect.{taken}
-use Rattle.tables.specs.Laws.{barrierOf, BarriersLeft, KeepsSound}
+use Rattle.tables.specs.Effect.{taken, isExit, liveAfter, next}
+use Rattle.tables.specs.Laws.{barrierOf, BarriersLeft, KeepsSound, RunKeepsSound, LiveFollowed}
 use Rattle.tables.proofs.Chains.{Has, taken-has}
 
 -- ---- the object row
@@ -91,25 +95,60 @@ answer-block : (v : View) (a : Answer) → answered (v .block) (v .object) a .bl
 answer-block v (answer.Refused n) = refl
 answer-block v (answer.Accepted o u d) = refl
 
+-- a step keeps the block's shape and its soundness
 block-sound : (v : View) (w : ℕ) (o : Op) → Shaped (v .block) → soundBlock (v .block) ≡ true
-    → soundBlock (taken v (record { warp = w; op = o }) .block) ≡ true
-block-sound v w o shaped h = taken-has (λ (x : Taken). soundBlock (x .block) ≡ true) v w o (λ n. h) (own o)
+    → Shaped (taken v (record { warp = w; op = o }) .block) × (soundBlock (taken v (record { warp = w; op = o }) .block) ≡ true)
+block-sound v w o shaped h = taken-has (λ (x : Taken). Shaped (x .block) × (soundBlock (x .block) ≡ true)) v w o (λ n. (shaped, h)) (own o)
   where
-    own : (o : Op) → Has (λ (x : Taken). soundBlock (x .block) ≡ true) v w o
-    own Exit = sound.exit-keeps-sound (v .block) w shaped h
-    own (Barrier k b) = sound.arrival-keeps-sound (v .block) w k (callOf b) shaped (asks b) h
-    own (Object a x) = rw (answer-block v (row.stepRow (v .object) (a / 8) (actOf x))) h
-    own (PendingCount t) = h
+    own : (o : Op) → Has (λ (x : Taken). Shaped (x .block) × (soundBlock (x .block) ≡ true)) v w o
+    own Exit = (sound.shape-kept .exit (v .block) w shaped, sound.exit-keeps-sound (v .block) w shaped h)
+    own (Barrier k b) =
+        (sound.shape-kept .arrival (v .block) w k (callOf b) shaped, sound.arrival-keeps-sound (v .block) w k (callOf b) shaped (asks b) h)
+    own (Object a x) = rw (answer-block v (row.stepRow (v .object) (a / 8) (actOf x))) (shaped, h)
+    own (PendingCount t) = (shaped, h)
 
 pub keeps-sound : KeepsSound
-keeps-sound t s shaped h =
-    let b = and-left (soundBlock (t .block)) (soundObjects (t .objects)) h in
-    let o = and-right (soundBlock (t .block)) (soundObjects (t .objects)) h in
+keeps-sound t s h =
+    let b = and-left (soundBlock (t .block)) (soundObjects (t .objects)) (h .sound) in
+    let o = and-right (soundBlock (t .block)) (soundObjects (t .objects)) (h .sound) in
     let v = viewOf t s in
-    rw (
-      block-sound v (s .warp) (s .op) shaped b,
-      objects-sound (t .objects) o (slotOf (s .op)) (taken v s .object) (object-sound v (s .warp) (s .op) (row-sound (t .objects) o (slotOf (s .op)))),
-    )
+    let after = block-sound v (s .warp) (s .op) (h .shaped) b in
+    record {
+      shaped = after .0;
+      sound =
+          rw (
+            after .1,
+            objects-sound (t .objects) o (slotOf (s .op)) (taken v s .object) (object-sound v (s .warp) (s .op) (row-sound (t .objects) o (slotOf (s .op)))),
+          );
+    }
+
+pub run-keeps-sound : RunKeepsSound
+run-keeps-sound x [] h = h
+run-keeps-sound x (s ∷ l) h = run-keeps-sound (next x s) l (keeps-sound (x .tables) s h)
+
+-- ---- who has not exited
+
+-- after an exit, by its verdict
+exit-live : (b : Block) (w : ℕ) → Shaped b → soundBlock b ≡ true → (v : Verdict) → barriers.exit b w .verdict ≡ v
+    → liveOf (barriers.exit b w .block) ≡ cond (isAccepted v) (less (liveOf b) w) (liveOf b)
+exit-live b w shaped h (Refused n) e = ap liveOf (changes.refused-leave .exit b w n e)
+exit-live b w shaped h (Accepted value done released) e = changes.exit-takes-out b w shaped h value released done e
+
+pub live-followed : LiveFollowed
+live-followed t s h =
+    taken-has (λ (x : Taken). liveOf (x .block) ≡ liveAfter (liveOf (t .block)) s (x .verdict)) (viewOf t s) (s .warp) (s .op)
+    (λ n. rw (and-false (isExit (s .op)))) (own (s .op))
+  where
+    ok : soundBlock (t .block) ≡ true
+    ok = and-left (soundBlock (t .block)) (soundObjects (t .objects)) (h .sound)
+
+    own : (o : Op) → Has (λ (x : Taken). liveOf (x .block) ≡ liveAfter (liveOf (t .block)) (record { warp = s .warp; op = o }) (x .verdict)) (viewOf t s) (s .warp) o
+    own Exit = exit-live (t .block) (s .warp) (h .shaped) ok (barriers.exit (t .block) (s .warp) .verdict) refl
+    own (Barrier k b) = changes.arrival-keeps-live (t .block) (s .warp) k (callOf b) ok
+    own (Object a x) = ap liveOf (answer-block (viewOf t s) (row.stepRow (viewOf t s .object) (a / 8) (actOf x)))
+    own (PendingCount y) = refl
+
+-- ---- barrier rows
 
 pub barriers-left : BarriersLeft
 barriers-left t s j h = taken-has (λ (x : Taken). barrierAt (x .block) j ≡ barrierAt (t .block) j) (viewOf t s) (s .warp) (s .op) (λ n. refl) (own (s .op) h)

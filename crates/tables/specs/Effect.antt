@@ -1,10 +1,11 @@
 -- What an accepted step does, and the step: document 01, "Named barriers" and "Mbarrier objects", over whole tables.
 -- Assumes nothing.
-use mathlib.Core.Bool.{false, cond}
+use mathlib.Core.Bool.{Bool, true, false, cond, _&&_}
 use mathlib.Core.List.{List, [], _∷_}
 use Prim.Native.Nat.{ℕ}
 use lib.Dec.{eqb}
 use lib.ListN.{set}
+use Rattle.sets.specs.Sets.{less}
 use Rattle.steps.specs.declared.Op.{Op}
 use Rattle.steps.specs.declared.Op.the-variants.{Exit, Barrier, Object, PendingCount}
 use Rattle.steps.specs.declared.Step.{Step}
@@ -15,7 +16,7 @@ use Rattle.block.specs.declared.Verdict.the-variants.{Accepted}
 use Rattle.barriers.specs.Steps as barriers
 use Rattle.tables.specs.declared.Taken.{Taken}
 use Rattle.tables.specs.declared.Tally.{Tally}
-use Rattle.tables.specs.Tables.{Tables, View, viewOf, slotOf, tallied}
+use Rattle.tables.specs.Tables.{Tables, View, viewOf, slotOf, isAccepted, tallied}
 use Rattle.tables.specs.Refusals.{callOf, actOf, refusal}
 use Rattle.tables.specs.Parts.{leaves, blockTaken}
 
@@ -47,6 +48,19 @@ verdict t s = taken (viewOf t s) s .verdict
 -- the tables after it: the block, and the row of the object that it names
 abbrev pub after : Tables → Step → Tables
 after t s = record { block = taken (viewOf t s) s .block; objects = set (t .objects) (slotOf (s .op)) (taken (viewOf t s) s .object) }
+
+-- ---- who has not exited
+
+-- an exit
+abbrev pub isExit : Op → Bool
+isExit Exit = true
+isExit (Barrier k b) = false
+isExit (Object a o) = false
+isExit (PendingCount t) = false
+
+-- the live warps after a step with this verdict: an accepted exit takes its own warp out of them, and no other step changes them
+abbrev pub liveAfter : ℕ → Step → Verdict → ℕ
+liveAfter live s v = cond (isExit (s .op) && isAccepted v) (less live (s .warp)) live
 
 -- ---- a run
 

@@ -3,6 +3,7 @@
 use mathlib.Core.Path.{_≡_}
 use mathlib.Core.Logic.{_↔_}
 use mathlib.Core.Bool.{true, false}
+use mathlib.Core.List.{List}
 use Prim.Native.Nat.{ℕ, _+_}
 use lib.ListN.{getD}
 use Rattle.folds.specs.Lowest.{Lowest, None}
@@ -12,12 +13,12 @@ use Rattle.steps.specs.declared.Step.{Step}
 use Rattle.object.specs.Row.{dead}
 use Rattle.block.specs.declared.Verdict.the-variants.{Refused}
 use Rattle.block.specs.declared.Block.{Block}
-use Rattle.block.specs.Tables.{barrierCount, barrierAt, isIdle}
+use Rattle.block.specs.Tables.{barrierCount, barrierAt, isIdle, liveOf}
 use Rattle.barriers.specs.Steps.{without, opened}
 use Rattle.block_laws.specs.Sound.{Shaped}
 use Rattle.tables.specs.Tables.{Tables, soundTables, viewOf, slotOf, numberOf, isAccepted, valueOf, doneOf, releasedOf}
 use Rattle.tables.specs.Refusals.{lines, refusal}
-use Rattle.tables.specs.Effect.{effect, taken, verdict, after}
+use Rattle.tables.specs.Effect.{effect, taken, verdict, after, liveAfter, State, run}
 
 -- a verdict's number is that of the lowest line that applies, 0 where none does
 abbrev pub NumberGiven : Type 0
@@ -61,9 +62,22 @@ abbrev pub BarriersLeft : Type 0
 BarriersLeft =
     (t : Tables) (s : Step) (j : ℕ) → (j ≡ barrierOf (t .block) (s .warp) (s .op) → ⊥) → barrierAt (after t s .block) j ≡ barrierAt (t .block) j
 
--- a step, accepted or refused, keeps sound tables sound
+-- sound tables over 32 warp rows and sixteen barrier rows
+pub record Sound (t : Tables) : Type 0 where
+  pub shaped : Shaped (t .block)
+  pub sound : soundTables t ≡ true
+
+-- a step, accepted or refused, keeps such tables so
 abbrev pub KeepsSound : Type 0
-KeepsSound = (t : Tables) (s : Step) → Shaped (t .block) → soundTables t ≡ true → soundTables (after t s) ≡ true
+KeepsSound = (t : Tables) (s : Step) → Sound t → Sound (after t s)
+
+-- and so does a run of any length
+abbrev pub RunKeepsSound : Type 0
+RunKeepsSound = (x : State) (l : List Step) → Sound (x .tables) → Sound (run x l .tables)
+
+-- in such tables, who has not exited after a step follows from who had not before it, the step and its verdict
+abbrev pub LiveFollowed : Type 0
+LiveFollowed = (t : Tables) (s : Step) → Sound t → liveOf (after t s .block) ≡ liveAfter (liveOf (t .block)) s (verdict t s)
 
 -- what completes at an accepted step: an active barrier row became idle; or a phase went up by one
 abbrev pub Completes : Tables → Step → Op → Type 0
