@@ -1,6 +1,6 @@
-// Times the checker and the quick engine on the same traces, and prints what bench/run puts
-// together: a line for each trace with its name, its steps and the nanoseconds a step of each
-// engine; or peak memory.
+// Times the checker and the three forms of the quick engine on the same traces, and prints what
+// bench/run puts together: a line for each trace with its name, its steps and the nanoseconds a
+// step of the checker, then with rows, with masks and without a check; or peak memory.
 #include <sys/resource.h>
 #include <sys/wait.h>
 #include <unistd.h>
@@ -110,21 +110,31 @@ struct Room {
   std::unique_ptr<std::uint8_t[]> text;
 };
 
-using Check = std::function<std::size_t(const Bytes &, const Room &)>;
+using Engine = std::function<std::size_t(const Bytes &, const Room &)>;
 
-const Check checker = [](const Bytes &trace, const Room &room) {
+const Engine checker = [](const Bytes &trace, const Room &room) {
   return glubotar_check(trace.data(), trace.size(), room.text.get(), room.size);
 };
-const Check by_rows = [](const Bytes &trace, const Room &room) {
-  return fast::check(trace.data(), trace.size(), room.text.get(), room.size, fast::Walk::rows);
-};
-const Check by_masks = [](const Bytes &trace, const Room &room) {
-  return fast::check(trace.data(), trace.size(), room.text.get(), room.size, fast::Walk::masks);
-};
 
-Bytes text_of(const Check &check, const Trace &trace) {
+Engine quick(fast::Check check) {
+  return [check](const Bytes &trace, const Room &room) {
+    return fast::check(trace.data(), trace.size(), room.text.get(), room.size, check);
+  };
+}
+
+const Engine by_rows = quick(fast::Check::rows);
+const Engine by_masks = quick(fast::Check::masks);
+const Engine unchecked = quick(fast::Check::none);
+
+Bytes text_of(const Engine &engine, const Trace &trace) {
   const Room room(trace);
-  return Bytes(room.text.get(), room.text.get() + check(trace.bytes, room));
+  return Bytes(room.text.get(), room.text.get() + engine(trace.bytes, room));
+}
+
+bool texts_agree(const std::vector<Engine> &engines, const Trace &trace) {
+  const Bytes text = text_of(engines.front(), trace);
+  return std::all_of(engines.begin(), engines.end(),
+                     [&](const Engine &engine) { return text_of(engine, trace) == text; });
 }
 
 // Nanoseconds of processor time so far.
@@ -135,14 +145,14 @@ double now() {
 }
 
 // Nanoseconds a step, the best of several runs; the engines take turns.
-std::vector<double> times(const std::vector<Check> &checks, const Trace &trace, int runs) {
-  std::vector<double> best(checks.size(), 1e18);
+std::vector<double> times(const std::vector<Engine> &engines, const Trace &trace, int runs) {
+  std::vector<double> best(engines.size(), 1e18);
   const Room room(trace);
   for (int run = 0; run < runs; ++run)
-    for (std::size_t c = 0; c < checks.size(); ++c) {
+    for (std::size_t e = 0; e < engines.size(); ++e) {
       const double start = now();
-      checks[c](trace.bytes, room);
-      best[c] = std::min(best[c], (now() - start) / static_cast<double>(trace.steps));
+      engines[e](trace.bytes, room);
+      best[e] = std::min(best[e], (now() - start) / static_cast<double>(trace.steps));
     }
   return best;
 }
@@ -166,8 +176,8 @@ long peak(const std::function<void()> &thing) {
 
 void print_peaks(const Trace &trace) {
   const long idle = peak([] {});
-  const auto above_idle = [&](const Check &check) {
-    return peak([&] { check(trace.bytes, Room(trace)); }) - idle;
+  const auto above_idle = [&](const Engine &engine) {
+    return peak([&] { engine(trace.bytes, Room(trace)); }) - idle;
   };
   const long own = above_idle(checker), other = above_idle(by_masks);
   std::printf("peak memory above an idle process's %ld KiB, trace of %zu bytes:\n", idle,
@@ -186,19 +196,19 @@ int main(int argc, char **argv) {
     return 0;
   }
   const int runs = std::max(1, std::atoi(word.data()));
-  const std::vector<Check> checks = {checker, by_rows, by_masks};
+  const std::vector<Engine> engines = {checker, by_rows, by_masks, unchecked};
   const std::pair<const char *, Trace (*)(std::size_t)> workloads[] = {
       {"barriers", barriers}, {"held", held}, {"objects", objects}, {"mixed", mixed}};
   for (const auto &[name, make] : workloads)
     for (const std::size_t length : lengths) {
       const Trace trace = make(length);
-      const Bytes text = text_of(checker, trace);
-      if (text != text_of(by_rows, trace) || text != text_of(by_masks, trace)) {
+      if (!texts_agree(engines, trace)) {
         std::fprintf(stderr, "FAILED: %s, %zu steps: the texts differ\n", name, trace.steps);
         return 1;
       }
-      const std::vector<double> best = times(checks, trace, runs);
-      std::printf("%s %zu %.1f %.1f %.1f\n", name, trace.steps, best[0], best[1], best[2]);
+      std::printf("%s %zu", name, trace.steps);
+      for (const double time : times(engines, trace, runs)) std::printf(" %.2f", time);
+      std::printf("\n");
     }
   return 0;
 }

@@ -125,20 +125,20 @@ bool objects_sound(const Tables &t) {
 // the waiting sets together are those who wait, and no warp is in two, since its row names one.
 // A function of its own, so that its loops have all registers, and on a page of its own, since
 // an emulator takes twice the time for a loop that lies across two.
-[[gnu::noinline, gnu::aligned(4096)]] bool sound(const Tables &t, Walk walk, u32 &left) {
+[[gnu::noinline, gnu::aligned(4096)]] bool sound(const Tables &t, Check check, u32 &left) {
   if (t.warps - 1 >= max_warps) return false;
   const u32 block = first_warps(t.warps);
   const WarpSets sets = gathered(t);
   u32 spare = (sets.waiting | sets.exited) & ~block;
   for (u32 w = t.warps; w < max_warps; ++w) spare |= t.warp[w].result;
-  if (spare || (walk == Walk::rows && !rows_agree(t))) return false;
+  if (spare || (check == Check::rows && !rows_agree(t))) return false;
   left = block & ~sets.exited;
   u32 met = 0;
   for (u32 b = 0; b < max_barriers; ++b) {
     const Barrier &row = t.barrier[b];
     if (!barrier_sound(row, t.warps, block, left)) return false;
     met |= row.waiting;
-    if (walk == Walk::masks)
+    if (check == Check::masks)
       for (u32 set = row.waiting; set; set &= set - 1)
         if (t.warp[__builtin_ctz(set)].barrier != b) return false;
   }
@@ -162,7 +162,7 @@ Answer release(Tables &t, Barrier &row) {
   return {0, 1, released, value};
 }
 
-Answer exit_step(Tables &t, u32 warp, u32 left) {
+Answer exit_step(Tables &t, u32 warp, u32 &left) {
   t.warp[warp].status = exited;
   left &= ~(1u << warp);
   for (Barrier &row : t.barrier)
@@ -265,10 +265,12 @@ Answer object_step(Tables &t, const u8 *step) {
   }
 }
 
-Answer take(Tables &t, const u8 *step, Walk walk) {
+// `left` are the warps that have not exited: the check gathers them anew, and without it they stay
+// as the last exit left them.
+template <Check check>
+Answer take(Tables &t, const u8 *step, u32 &left) {
   const u32 kind = step[0], warp = step[1];
-  u32 left = 0;
-  if (!sound(t, walk, left)) return refused(3);
+  if (check != Check::none && !sound(t, check, left)) return refused(3);
   if (warp >= t.warps) return refused(4);
   if (t.warp[warp].status != ready) return refused(5);
   if (kind == 0x01) return exit_step(t, warp, left);
@@ -305,12 +307,36 @@ u8 *put(u8 *out, u64 number) {
   return out + count;
 }
 
-u8 *put_refused(u8 *out, u64 number, u32 refusal) {
+// A step's number as digits, the first in the lowest byte, as a store lays them. The last is then
+// the highest: adding `one` counts up, without a division, until the digits reach `past_nine`.
+struct Number {
+  u64 digits, one, past_nine;
+  u32 length;
+};
+
+Number digits_of(u64 number) {
+  u8 text[sizeof Number::digits] = {};
+  const u32 length = static_cast<u32>(put(text, number) - text);
+  const u32 last = 8 * (length - 1);
+  return {load<u64>(text), u64{1} << last, u64{'9' + 1} << last, length};
+}
+
+void count_up(Number &number, u64 to) {
+  number.digits += number.one;
+  if (number.digits >= number.past_nine) number = digits_of(to);
+}
+
+u8 *put(u8 *out, const Number &number) {
+  std::memcpy(out, &number.digits, sizeof number.digits);
+  return out + number.length;
+}
+
+u8 *put_refused(u8 *out, const Number &number, u32 refusal) {
   out = put(put(put(out, number), " no "), u64{refusal});
   return put(out, "\n");
 }
 
-u8 *put_accepted(u8 *out, u64 number, const Answer &answer) {
+u8 *put_accepted(u8 *out, const Number &number, const Answer &answer) {
   out = put(put(put(out, number), " ok "), answer.value);
   out = answer.done ? put(out, " 1 ") : put(out, " 0 ");
   if (!answer.released) return put(out, "00000000\n");
@@ -324,22 +350,27 @@ u8 *put_end(u8 *out, u64 accepted, u64 refusals) {
   return put(out, "\n");
 }
 
-// The text of a trace, written to a place that has the room; answers its end.
-u8 *run(const u8 *trace, std::size_t len, Walk walk, u8 *out) {
+// The text of a trace, written to a place that has the room; answers its end. Flattened, so that
+// all but the check is one function for each form and answers stay in registers.
+template <Check check>
+[[gnu::flatten]] u8 *run(const u8 *trace, std::size_t len, u8 *out) {
   u32 at_once = 0;
   if (len > trace_limit) at_once = 21;
   else if (len == 0) at_once = 2;
   else if (trace[0] == 0 || trace[0] > max_warps) at_once = 4;
-  if (at_once) return put_end(put_refused(out, 0, at_once), 0, 1);
+  if (at_once) return put_end(put_refused(out, digits_of(0), at_once), 0, 1);
   Tables t{};
   t.warps = trace[0];
+  u32 left = first_warps(t.warps);
   u64 accepted = 0, refusals = 0;
-  for (std::size_t place = 1; place < len; place += lengths[trace[place]]) {
-    const std::size_t length = lengths[trace[place]];
-    const u64 number = accepted + refusals + 1;
+  Number number = digits_of(0);
+  std::size_t length = 0;
+  for (std::size_t place = 1; place < len; place += length) {
+    length = lengths[trace[place]];
+    count_up(number, accepted + refusals + 1);
     if (length == 0 || len - place < length)
       return put_end(put_refused(out, number, length ? 2 : 1), accepted, refusals + 1);
-    const Answer answer = take(t, trace + place, walk);
+    const Answer answer = take<check>(t, trace + place, left);
     if (answer.refusal) {
       ++refusals;
       out = put_refused(out, number, answer.refusal);
@@ -351,6 +382,14 @@ u8 *run(const u8 *trace, std::size_t len, Walk walk, u8 *out) {
   return put_end(out, accepted, refusals);
 }
 
+u8 *run(const u8 *trace, std::size_t len, Check check, u8 *out) {
+  switch (check) {
+    case Check::rows: return run<Check::rows>(trace, len, out);
+    case Check::masks: return run<Check::masks>(trace, len, out);
+    default: return run<Check::none>(trace, len, out);
+  }
+}
+
 }  // namespace
 
 // The shortest step has two bytes; a lone byte and the end take a line each.
@@ -360,11 +399,11 @@ std::size_t text_room(std::size_t trace_len) {
 }
 
 std::size_t check(const u8 *trace, std::size_t trace_len, u8 *text, std::size_t text_len,
-                  Walk walk) {
+                  Check check) {
   const std::size_t room = text_room(trace_len);
-  if (text_len >= room) return static_cast<std::size_t>(run(trace, trace_len, walk, text) - text);
+  if (text_len >= room) return static_cast<std::size_t>(run(trace, trace_len, check, text) - text);
   const std::unique_ptr<u8[]> own(new u8[room]);
-  const u8 *end = run(trace, trace_len, walk, own.get());
+  const u8 *end = run(trace, trace_len, check, own.get());
   const std::size_t length = static_cast<std::size_t>(end - own.get());
   if (length > text_len) return SIZE_MAX;
   std::memcpy(text, own.get(), length);
