@@ -9,7 +9,7 @@ use native.Mathlib.Nat.{lt-of-le-of-lt}
 use native.Mathlib.Omega.{arith}
 use lib.Bits.{bitAnd, bitOr, and-le-l}
 use lib.Dec.{eqb, ltb}
-use lib.ListN.{length, getD, set}
+use lib.ListN.{length, set}
 use lib.Seq.{set-out, getD-set-same, getD-set-other}
 use borrow.Author.Tests.{eq-eqb, ne-eqb, lt-ltb, le-ltb, ltb-true, ltb-false}
 use Rattle.folds.specs.Folds.{first, every, firsts}
@@ -26,7 +26,7 @@ use Rattle.block.specs.declared.Verdict.{Verdict}
 use Rattle.block.specs.declared.Verdict.the-variants.{Accepted}
 use Rattle.block.specs.declared.Turn.{Turn}
 use Rattle.barriers.specs.Steps.{warpLine, warpRefusal, callRefusal, arrivalLine, arrivalRefusal, releasedWarps, completed, goesOn, refused, arrival, without, opened, exit}
-use Rattle.barriers.specs.Changes.{withStatus, changed, noChange, made, refusing, goingOn, completing, arriving, arrivalMoved, ArrivalSeen, firstOpening, exiting, exitMoved, ExitSeen}
+use Rattle.barriers.specs.Changes.{withStatus, changed, noChange, made, refusing, goingOn, completing, arriving, arrivalMoved, ArrivalSeen, firstOpening, exitMoved, ExitSeen}
 use Rattle.barriers.proofs.Steps.{warp-line, line-6, call-line}
 
 -- where none waits, none is released
@@ -205,18 +205,16 @@ exit-seen b w l m =
     go n k false u = made-refused b l m n
 
 -- its change, by the tests on the way to it
-module _ (n alive : ℕ) (x : Warp) (rs : List Barrier) (w m : ℕ) (said : m ≡ warpLine n x w) where
-  pub exit-no-warp : (m ≡ 0 → ⊥) → refusing m ≡ exitMoved n alive x rs w
+module _ (n : ℕ) (x : Warp) (r : Barrier) (w k m : ℕ) (said : m ≡ warpLine n x w) where
+  pub exit-no-warp : (m ≡ 0 → ⊥) → refusing m ≡ exitMoved n x r w k
   unfolding exitMoved
   exit-no-warp h = rw (← said, ne-eqb m 0 h)
 
-  module _ (ready : m ≡ 0) (k : ℕ) (found : k ≡ firstOpening rs alive w) where
-    exit-accepted : exiting rs w k ≡ exitMoved n alive x rs w
+  module _ (ready : m ≡ 0) where
+    pub exit-completes : k < barrierCount → completing w Exited k r ≡ exitMoved n x r w k
     unfolding exitMoved
-    exit-accepted = ap (exiting rs w) found ∙ rw (← said, ready)
+    exit-completes h = rw (← said, ready, lt-ltb k barrierCount h)
 
-    pub exit-completes : k < barrierCount → completing w Exited k (getD rs k idle) ≡ exitMoved n alive x rs w
-    exit-completes h = rw (← exit-accepted, lt-ltb k barrierCount h)
-
-    pub exit-alone : barrierCount ≤ k → goingOn w Exited barrierCount idle ≡ exitMoved n alive x rs w
-    exit-alone h = rw (← exit-accepted, le-ltb k barrierCount h)
+    pub exit-alone : barrierCount ≤ k → goingOn w Exited barrierCount idle ≡ exitMoved n x r w k
+    unfolding exitMoved
+    exit-alone h = rw (← said, ready, le-ltb k barrierCount h)

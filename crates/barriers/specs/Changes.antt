@@ -91,17 +91,17 @@ opensFor r alive w = every (not (isIdle (r .form)) ∷ eqb (r .threads) 0 ∷ pa
 abbrev pub firstOpening : List Barrier → ℕ → ℕ → ℕ
 firstOpening rs alive w = first barrierCount (λ k. opensFor (getD rs k idle) alive w)
 
--- what an exit of warp w changes that no line refuses, where k is the first row of rs that opens, and 16 if none does
-abbrev pub exiting : List Barrier → ℕ → ℕ → Moved
-exiting rs w k = cond (ltb k barrierCount) (completing w Exited k (getD rs k idle)) (goingOn w Exited barrierCount idle)
+-- what an exit of warp w changes that no line refuses, where k is the barrier that it completes, 16 for none, and r the row of that barrier
+abbrev pub exiting : Barrier → ℕ → ℕ → Moved
+exiting r w k = cond (ltb k barrierCount) (completing w Exited k r) (goingOn w Exited barrierCount idle)
 
--- what an exit of warp w changes in a block of so many warps, of which those of alive have not exited, where x is the row of the warp and rs are the rows of the barriers
-unfoldable pub exitMoved : ℕ → ℕ → Warp → List Barrier → ℕ → Moved
-exitMoved warps alive x rs w =
-    cond (eqb (warpLine warps x w) 0) (exiting rs w (firstOpening rs alive w)) (refusing (warpLine warps x w))
+-- what an exit of warp w changes in a block of so many warps, where x is the row of the warp, k the barrier that it completes, 16 for none, and r the row of that barrier
+unfoldable pub exitMoved : ℕ → Warp → Barrier → ℕ → ℕ → Moved
+exitMoved warps x r w k = cond (eqb (warpLine warps x w) 0) (exiting r w k) (refusing (warpLine warps x w))
 
--- of every block of 32 warp rows and sixteen barrier rows, that change makes the exit's turn
+-- of every block of 32 warp rows and sixteen barrier rows, that change at the first row that opens makes the exit's turn
 abbrev pub ExitSeen : Type 0
 ExitSeen =
     (b : Block) (w : ℕ) → length (b .rows) ≡ mostWarps → length (b .barriers) ≡ barrierCount
-    → made b (exitMoved (b .warps) (liveOf b) (warpAt b w) (b .barriers) w) ≡ exit b w
+    → let k = firstOpening (b .barriers) (liveOf b) w in
+    made b (exitMoved (b .warps) (warpAt b w) (barrierAt b k) w k) ≡ exit b w

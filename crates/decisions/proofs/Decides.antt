@@ -1,8 +1,7 @@
 -- Laws of what a step decides: each kind of decision by the tests on the way to it, and what is left of a block.
 -- Assumes nothing.
 use mathlib.Core.Path.{_≡_, refl, sym, ap, _∙_}
-use mathlib.Core.Bool.{Bool, true, false, not, cond, _&&_}
-use mathlib.Core.List.{List}
+use mathlib.Core.Bool.{Bool, true, false, not, cond}
 use Prim.Native.Nat.{ℕ, _/_}
 use lib.Dec.{eqb}
 use borrow.Author.Tests.{eq-eqb, ne-eqb, eqb-true, eqb-false}
@@ -18,8 +17,7 @@ use Rattle.object.specs.declared.Count.{Count}
 use Rattle.object.specs.declared.Count.the-variants.{NoToken, Pending}
 use Rattle.object.specs.Tokens.{tooLarge, pendingIn, pendingCount}
 use Rattle.object.specs.Row.{stepRow}
-use Rattle.block.specs.Tables.{soundBlock}
-use Rattle.block.specs.declared.Barrier.{Barrier}
+use Rattle.block.specs.Tables.{liveOf}
 use Rattle.block.specs.declared.Block.{Block}
 use Rattle.block.specs.declared.Call.{Call}
 use Rattle.block.specs.declared.Verdict.{Verdict}
@@ -30,8 +28,6 @@ use Rattle.barriers.specs.Changes.{noChange, arrivalMoved, exitMoved}
 use Rattle.barriers.proofs.Steps.{row-line}
 use Rattle.barriers.proofs.Changes.{unchanged, arrival-seen, exit-seen}
 use Rattle.block_laws.specs.Sound.{Shaped}
-use Rattle.soundness.specs.declared.Survey.{Survey}
-use Rattle.soundness.specs.Seen.{nothingSeen, allSeen, surveyOf}
 use Rattle.tables.specs.declared.Taken.{Taken}
 use Rattle.tables.specs.Tables.{View}
 use Rattle.tables.specs.Refusals.{callOf, actOf, offPlace}
@@ -39,8 +35,9 @@ use Rattle.tables.specs.Parts.{leaves, blockTaken, answered, ifReady, objectTak
 use Rattle.tables.specs.Effect.{taken}
 use Rattle.tables.proofs.Parts.{not-ready, is-ready}
 use Rattle.tables.proofs.Chains.{taken-unsound, taken-exit, taken-barrier, taken-object, taken-pending}
+use Rattle.decisions.specs.declared.Seen.{Seen}
 use Rattle.decisions.specs.declared.Decided.{Decided}
-use Rattle.decisions.specs.Decides.{refusing, inBlock, answering, unless, objectDecided, pendingDecided, soundDecided, decidedOn, leftOf, barrierOf, DecisionSeen}
+use Rattle.decisions.specs.Decides.{refusing, inBlock, answering, unless, objectDecided, pendingDecided, seenOf, soundDecided, decidedOn, leftOf, DecisionSeen}
 
 -- ---- a decision, by the tests on the way to it
 
@@ -76,29 +73,29 @@ module _ (n : ℕ) (o : Object) (t : ℕ) where
       go true = refl
       go false = refl
 
-module _ (v : Survey) (rs : List Barrier) (fine : Bool) (o : Object) (s : Step) where
-  pub decided-unsound : not (v .sound && fine) ≡ true → refusing o 3 ≡ decidedOn v rs fine o s
+module _ (v : Seen) (o : Object) (s : Step) where
+  pub decided-unsound : not (v .sound) ≡ true → refusing o 3 ≡ decidedOn v o s
   unfolding decidedOn
   decided-unsound e = rw e
 
-  module _ (sound : not (v .sound && fine) ≡ false) where
-    decided-sound : (x : Op) → s .op ≡ x → soundDecided v rs o (s .warp) x ≡ decidedOn v rs fine o s
+  module _ (sound : not (v .sound) ≡ false) where
+    decided-sound : (x : Op) → s .op ≡ x → soundDecided v o (s .warp) x ≡ decidedOn v o s
     unfolding decidedOn
     decided-sound x kind = rw (sound, kind)
 
-    pub decided-exit : (m : Moved) → m ≡ exitMoved (v .warps) (v .live) (v .warp) rs (s .warp) → s .op ≡ op.Exit → inBlock m o ≡ decidedOn v rs fine o s
+    pub decided-exit : (m : Moved) → m ≡ exitMoved (v .warps) (v .warp) (v .barrier) (s .warp) (v .at) → s .op ≡ op.Exit → inBlock m o ≡ decidedOn v o s
     decided-exit m e kind = ap (λ (y : Moved). inBlock y o) e ∙ decided-sound op.Exit kind
 
     pub decided-barrier : (m : Moved) (k : ℕ) (b : BarrierStep) (c : Call) → m ≡ arrivalMoved (v .warps) (v .live) (v .warp) (v .barrier) (s .warp) k c → c ≡ callOf b → s .op ≡ op.Barrier k b
-        → inBlock m o ≡ decidedOn v rs fine o s
+        → inBlock m o ≡ decidedOn v o s
     decided-barrier m k b c e call kind =
         ap (λ (y : Moved). inBlock y o) (e ∙ ap (arrivalMoved (v .warps) (v .live) (v .warp) (v .barrier) (s .warp) k) call) ∙ decided-sound (op.Barrier k b) kind
 
     module _ (n : ℕ) (line : n ≡ warpLine (v .warps) (v .warp) (s .warp)) where
-      pub decided-object : (a : ℕ) (x : ObjectStep) → s .op ≡ op.Object a x → objectDecided n o a x ≡ decidedOn v rs fine o s
+      pub decided-object : (a : ℕ) (x : ObjectStep) → s .op ≡ op.Object a x → objectDecided n o a x ≡ decidedOn v o s
       decided-object a x kind = ap (λ (k : ℕ). objectDecided k o a x) line ∙ decided-sound (op.Object a x) kind
 
-      pub decided-pending : (t : ℕ) → s .op ≡ op.PendingCount t → pendingDecided n o t ≡ decidedOn v rs fine o s
+      pub decided-pending : (t : ℕ) → s .op ≡ op.PendingCount t → pendingDecided n o t ≡ decidedOn v o s
       decided-pending t kind = ap (λ (k : ℕ). pendingDecided k o t) line ∙ decided-sound (op.PendingCount t) kind
 
 -- ---- what is left of a block
@@ -145,21 +142,13 @@ module _ (b : Block) (shaped : Shaped b) (o : Object) where
   view t = record { sound = t; block = b; object = o }
 
   -- each kind of step in sound tables
-  left-sound : (w : ℕ) (x : Op) → leftOf b (soundDecided (allSeen b w (barrierOf x)) (b .barriers) o w x) ≡ taken (view true) (record { warp = w; op = x })
+  left-sound : (w : ℕ) (x : Op) → leftOf b (soundDecided (seenOf true (liveOf b) b (record { warp = w; op = x })) o w x) ≡ taken (view true) (record { warp = w; op = x })
   left-sound w op.Exit = ap (blockTaken o) (exit-seen b w (shaped .rows) (shaped .barriers)) ∙ sym (taken-exit (view true) w)
   left-sound w (op.Barrier k c) = ap (blockTaken o) (arrival-seen b w k _ (shaped .rows) (shaped .barriers)) ∙ sym (taken-barrier (view true) w k c)
   left-sound w (op.Object a x) = left-object w _ (row-line b w) a x ∙ sym (taken-object (view true) w a x)
   left-sound w (op.PendingCount t) = left-pending w _ (row-line b w) t ∙ sym (taken-pending (view true) w t)
 
-  -- and in any tables
-  left-seen : (fine : Bool) (s : Step) → leftOf b (decidedOn (surveyOf b (s .warp) (barrierOf (s .op))) (b .barriers) fine o s) ≡ taken (view (soundBlock b && fine)) s
-  unfolding decidedOn
-  left-seen fine s = go (soundBlock b) fine
-    where
-      go : (t u : Bool) → leftOf b (decidedOn (cond t (allSeen b (s .warp) (barrierOf (s .op))) nothingSeen) (b .barriers) u o s) ≡ taken (view (t && u)) s
-      go false u = left-refused 3 ∙ taken-unsound (view false) s refl
-      go true false = left-refused 3 ∙ taken-unsound (view false) s refl
-      go true true = left-sound (s .warp) (s .op)
-
 pub decision-seen : DecisionSeen
-decision-seen b shaped fine o s = left-seen b shaped o fine s
+unfolding decidedOn
+decision-seen b shaped true o s = left-sound b shaped o (s .warp) (s .op)
+decision-seen b shaped false o s = left-refused b shaped o 3 ∙ taken-unsound (view b shaped o false) s refl

@@ -1,18 +1,29 @@
-// The whole step decided, on the block and the one object row that the step names: its verdict, and what it changes.
+// The whole step decided, on what it sees of the tables and the one object row that it names: its verdict, and what it changes.
 use barriers::Change;
 use barriers::Moved;
 use block::BARRIER_COUNT;
 use block::Barrier;
 use block::Verdict;
+use block::Warp;
 use object::Answer;
 use object::Count;
 use object::Object;
-use soundness::Survey;
 use steps::ObjectStep;
 use steps::Op;
 use steps::Step;
 ghost use mathlib.Core.Path.{_≡_};
-ghost use Rattle.decisions.specs.Decides.{refusing, inBlock, answering, objectDecided, pendingDecided, barrierOf, decidedOn};
+ghost use Rattle.tables.specs.Effect.{isExit};
+ghost use Rattle.decisions.specs.Decides.{refusing, inBlock, answering, objectDecided, pendingDecided, namedBarrier, decidedOn};
+
+// What a step sees of the tables: whether they are sound; how many warps the block has, and which of them have not exited; the row of its warp; the barrier whose row it may change, 16 for none, and that row.
+pub struct Seen {
+    pub sound: bool,
+    pub warps: u8,
+    pub live: u32,
+    pub warp: Warp,
+    pub at: u8,
+    pub barrier: Barrier,
+}
 
 // What a step decides: its verdict, what it changes in the block, and the row of the object that it names.
 pub struct Decided {
@@ -98,9 +109,21 @@ fn pending(n: u8, row: Object, token: u64) -> Decided
     }
 }
 
+// Whether a step is an exit.
+pub fn is_exit(op: Op) -> bool
+    ensures { λ r. ⌜ r ≡ isExit op ⌝ }
+{
+    match op {
+        Op::Exit => true,
+        Op::Barrier(_, _) => false,
+        Op::Object(_, _) => false,
+        Op::PendingCount(_) => false,
+    }
+}
+
 // The barrier that a step names; 16, which there is not, where it names none.
-pub fn barrier_of(op: Op) -> u8
-    ensures { λ r. ⌜ r ≡ barrierOf op ⌝ }
+pub fn named_barrier(op: Op) -> u8
+    ensures { λ r. ⌜ r ≡ namedBarrier op ⌝ }
 {
     match op {
         Op::Exit => BARRIER_COUNT,
@@ -110,29 +133,23 @@ pub fn barrier_of(op: Op) -> u8
     }
 }
 
-// The whole step, on what it sees of a block, the block's barriers, whether all object rows are fine, and the row of the object that it names: its verdict, the row, and what it changes in the block. That is line 3 unless block and rows are sound, and else what the step's kind decides; of a block that is seen so it leaves what the step over whole tables leaves (`decision-seen`).
-pub fn decide(
-    whole: Survey,
-    barriers: [Barrier; BARRIER_COUNT as usize],
-    fine: bool,
-    row: Object,
-    step: Step,
-) -> Decided
-    ensures { λ r. ⌜ r ≡ decidedOn whole barriers fine row step ⌝ }
+// The whole step, on what it sees of the tables and the row of the object that it names: its verdict, the row, and what it changes in the block. That is line 3 unless the tables are sound, and else what the step's kind decides; of a block that is seen so it leaves what the step over whole tables leaves (`decision-seen`).
+pub fn decide(seen: Seen, row: Object, step: Step) -> Decided
+    ensures { λ r. ⌜ r ≡ decidedOn seen row step ⌝ }
 {
     let w = step.warp;
     let op = step.op;
-    if !(whole.sound & fine) {
+    if !seen.sound {
         return refuse(row, 3);
     }
-    let warp = whole.warp;
-    let barrier = whole.barrier;
+    let warp = seen.warp;
+    let barrier = seen.barrier;
     match op {
-        Op::Exit => in_block(exits::exit(whole.warps, whole.live, warp, barriers, w), row),
+        Op::Exit => in_block(exits::exit(seen.warps, warp, barrier, w, seen.at), row),
         Op::Barrier(k, s) => in_block(
             arrivals::arrival(
-                whole.warps,
-                whole.live,
+                seen.warps,
+                seen.live,
                 warp,
                 barrier,
                 w,
@@ -141,7 +158,7 @@ pub fn decide(
             ),
             row,
         ),
-        Op::Object(a, o) => on_object(barriers::warp_refusal(whole.warps, warp, w), row, a, o),
-        Op::PendingCount(t) => pending(barriers::warp_refusal(whole.warps, warp, w), row, t),
+        Op::Object(a, o) => on_object(barriers::warp_refusal(seen.warps, warp, w), row, a, o),
+        Op::PendingCount(t) => pending(barriers::warp_refusal(seen.warps, warp, w), row, t),
     }
 }

@@ -8,7 +8,7 @@ ghost use mathlib.Core.Path.{_≡_};
 ghost use Rattle.barriers.specs.Changes.{firstOpening, exitMoved};
 
 // The barrier that completes when warp w exits, where those of alive have not exited before, and 16 if none does.
-fn opened(barriers: [Barrier; BARRIER_COUNT as usize], alive: u32, w: u8) -> u8
+pub fn opened(barriers: [Barrier; BARRIER_COUNT as usize], alive: u32, w: u8) -> u8
     ensures { λ r. ⌜ r ≡ firstOpening barriers alive w ⌝ }
 {
     let mut k: u8 = 0;
@@ -24,24 +24,16 @@ fn opened(barriers: [Barrier; BARRIER_COUNT as usize], alive: u32, w: u8) -> u8
     k
 }
 
-// Exit: what the exit of warp w changes in a block of so many warps, of which those of alive have not exited, where this is the row of the warp and these are the rows of the barriers.
-pub fn exit(
-    warps: u8,
-    alive: u32,
-    warp: Warp,
-    barriers: [Barrier; BARRIER_COUNT as usize],
-    w: u8,
-) -> Moved
-    ensures { λ m. ⌜ m ≡ exitMoved warps alive warp barriers w ⌝ }
+// Exit: what the exit of warp w changes in a block of so many warps, where this is the row of the warp, k the barrier that completes, 16 for none, and this the row of that barrier.
+pub fn exit(warps: u8, warp: Warp, barrier: Barrier, w: u8, k: u8) -> Moved
+    ensures { λ m. ⌜ m ≡ exitMoved warps warp barrier w k ⌝ }
 {
     let n = barriers::warp_refusal(warps, warp, w);
     if n != 0 {
         return barriers::refuse(n);
     }
-    let k = opened(barriers, alive, w);
     if k < BARRIER_COUNT {
-        let r = barriers[k as usize];
-        return barriers::complete(w as usize, Status::Exited, k as usize, r);
+        return barriers::complete(w as usize, Status::Exited, k as usize, barrier);
     }
     barriers::go_on(
         w as usize,

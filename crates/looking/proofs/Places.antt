@@ -16,16 +16,16 @@ use Rattle.looking.specs.declared.Laying.{Laying}
 use Rattle.looking.specs.Places.{looked}
 
 module _ (s : List ℕ) (l : Laying) where
-  pub look-end : length s ≤ l .cursor .at → looked s l ≡ record { going = false; refusal = 0; at = l .at; cursor = l .cursor; lines = l .lines; step = l .step }
+  pub look-end : length s ≤ l .cursor .at → looked s l ≡ record { going = false; refusal = 0; at = l .at; cursor = l .cursor; step = l .step }
   unfolding looked
   look-end h = rw (le-leb (length s) (l .cursor .at) h)
 
   module _ (more : l .cursor .at < length s) where
-    pub look-stop : (n : ℕ) → readAt s (l .cursor .at) ≡ read.Refused n → looked s l ≡ record { going = false; refusal = n; at = l .at; cursor = l .cursor; lines = l .lines; step = l .step }
+    pub look-stop : (n : ℕ) → readAt s (l .cursor .at) ≡ read.Refused n → looked s l ≡ record { going = false; refusal = n; at = l .at; cursor = l .cursor; step = l .step }
     unfolding looked
     look-stop n e = rw (lt-leb (length s) (l .cursor .at) more, e)
 
-    pub look-step : (st : Step) (c : Cursor) → readAt s (l .cursor .at) ≡ read.Found st c → looked s l ≡ record { going = true; refusal = 0; at = l .at; cursor = c; lines = l .lines; step = st }
+    pub look-step : (st : Step) (c : Cursor) → readAt s (l .cursor .at) ≡ read.Found st c → looked s l ≡ record { going = true; refusal = 0; at = l .at; cursor = c; step = st }
     unfolding looked
     look-step st c e = rw (lt-leb (length s) (l .cursor .at) more, e)
 

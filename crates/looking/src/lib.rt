@@ -3,7 +3,6 @@ use steps::Cursor;
 use steps::Op;
 use steps::Read;
 use steps::Step;
-use tables::Tally;
 ghost use mathlib.Core.Path.{_≡_};
 ghost use Rattle.printed.specs.Text.{traceRefusal};
 ghost use Rattle.looking.specs.Places.{firstPlace, looked};
@@ -14,13 +13,12 @@ pub const MOST_BYTES: usize = 65536;
 // A block has at most 32 warps.
 const MOST_WARPS: u8 = 32;
 
-// A text that is being laid: whether a step was found at the run's place, and which; the 1 or 2 that was found instead, else 0; the place after what is laid; the place of the next step; the lines so far.
+// A text that is being laid: whether a step was found at the run's place, and which; the 1 or 2 that was found instead, else 0; the place after what is laid; the place of the next step.
 pub struct Laying {
     pub going: bool,
     pub refusal: u8,
     pub at: usize,
     pub cursor: Cursor,
-    pub lines: Tally,
     pub step: Step,
 }
 
@@ -50,10 +48,6 @@ pub fn first_place() -> Laying
         refusal: 0,
         at: 0,
         cursor: Cursor { at: 1 },
-        lines: Tally {
-            accepted: 0,
-            refused: 0,
-        },
         step: Step {
             warp: 0,
             op: Op::Exit,
@@ -67,7 +61,6 @@ pub fn look(trace: &[u8], l: Laying) -> Laying
 {
     let at = l.at;
     let cursor = l.cursor;
-    let lines = l.lines;
     let step = l.step;
     if trace.len() <= cursor.at {
         return Laying {
@@ -75,7 +68,6 @@ pub fn look(trace: &[u8], l: Laying) -> Laying
             refusal: 0,
             at,
             cursor,
-            lines,
             step,
         };
     }
@@ -85,7 +77,6 @@ pub fn look(trace: &[u8], l: Laying) -> Laying
             refusal: 0,
             at,
             cursor: next,
-            lines,
             step: found,
         },
         Read::Refused(n) => Laying {
@@ -93,7 +84,6 @@ pub fn look(trace: &[u8], l: Laying) -> Laying
             refusal: n,
             at,
             cursor,
-            lines,
             step,
         },
     }

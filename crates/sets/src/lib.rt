@@ -43,7 +43,7 @@ pub fn part(a: u32, b: u32) -> bool
 }
 
 // The set of the warps below n.
-fn below(n: u8) -> u32
+pub fn below(n: u8) -> u32
     ensures { λ r. ⌜ r ≡ 2 ^ min n 32 - 1 ⌝ }
 {
     if n < 32 { (1 << (n as u32)) - 1 } else { ALL }

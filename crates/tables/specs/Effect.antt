@@ -75,3 +75,8 @@ next x s = record { tables = after (x .tables) s; tally = tallied (x .tally) (ve
 abbrev pub run : State → List Step → State
 run x [] = x
 run x (s ∷ l) = run (next x s) l
+
+-- the verdicts of its steps
+abbrev pub verdicts : State → List Step → List Verdict
+verdicts x [] = []
+verdicts x (s ∷ l) = verdict (x .tables) s ∷ verdicts (next x s) l

@@ -10,7 +10,7 @@ refuse-requires : tie.Need-refuse-requires
 refuse-requires c κs = search needs
 
 returns : tie.Need-returns
-returns c = c .refuse .ensures ∙ decided-unsound _ _ _ _ _ (c .before .if1 .taken)
+returns c = c .refuse .ensures ∙ decided-unsound _ _ _ (c .before .if1 .taken)
 
 enum-told : tie.Need-enum-told
 enum-told c = search needs
@@ -55,25 +55,25 @@ returns-2 : tie.Need-returns-2
 returns-2 c =
     let o = c .before .before in
     let e = o .before .before .before .before in
-    c .in-block .ensures ∙ decided-exit _ _ _ _ _ (e .if1 .left) _ (c .before .exit .ensures) (o .enum-told .given .1)
+    c .in-block .ensures ∙ decided-exit _ _ _ (e .if1 .left) _ (c .before .exit .ensures) (o .enum-told .given .1)
 
 returns-3 : tie.Need-returns-3
 returns-3 c =
     let o = c .before .before .before .before in
     let e = o .before .before .before .before in
-    c .in-block2 .ensures ∙ decided-barrier _ _ _ _ _ (e .if1 .left) _ _ _ _ (c .before .arrival .ensures) (c .before .before .call-of .ensures) (o .op .given .1)
+    c .in-block2 .ensures ∙ decided-barrier _ _ _ (e .if1 .left) _ _ _ _ (c .before .arrival .ensures) (c .before .before .call-of .ensures) (o .op .given .1)
 
 returns-4 : tie.Need-returns-4
 returns-4 c =
     let o = c .before .before .before in
     let e = o .before .before .before .before in
-    c .on-object .ensures ∙ decided-object _ _ _ _ _ (e .if1 .left) _ (c .before .warp-refusal .ensures) _ _ (o .op2 .given .1)
+    c .on-object .ensures ∙ decided-object _ _ _ (e .if1 .left) _ (c .before .warp-refusal .ensures) _ _ (o .op2 .given .1)
 
 returns-5 : tie.Need-returns-5
 returns-5 c =
     let o = c .before .before .before in
     let e = o .before .before .before .before in
-    c .pending .ensures ∙ decided-pending _ _ _ _ _ (e .if1 .left) _ (c .before .warp-refusal2 .ensures) _ (o .op3 .given .1)
+    c .pending .ensures ∙ decided-pending _ _ _ (e .if1 .left) _ (c .before .warp-refusal2 .ensures) _ (o .op3 .given .1)
 
 pub decide-spec : {M : Type 1} → statement M
 decide-spec =

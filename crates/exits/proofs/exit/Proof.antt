@@ -16,30 +16,14 @@ refuse-requires c κs = search needs
 returns : tie.Need-returns
 returns c = c .refuse .ensures ∙ exit-no-warp _ _ _ _ _ _ (c .before .before .warp-refusal .ensures) (c .before .if1 .taken)
 
-opened-requires : tie.Need-opened-requires
-opened-requires c κs = search needs
-
-cast-r : tie.Need-cast-r
-cast-r c = search needs
-
-mul-r : tie.Need-mul-r
-mul-r c = search needs
-
-array-copy-out-r : tie.Need-array-copy-out-r
-array-copy-out-r c = search needs
-
-cast-complete : tie.Need-cast-complete
-cast-complete c = search needs
-
 complete-requires : tie.Need-complete-requires
 complete-requires c κs = search needs
 
 returns-2 : tie.Need-returns-2
 returns-2 c =
-    let o = c .before .before .before in
-    let n = o .before .before in
+    let o = c .before .before in
     c .complete .ensures
-    ∙ exit-completes _ _ _ _ _ _ (n .warp-refusal .ensures) (o .before .if1 .left) _ (o .opened .ensures) (c .before .before .if2 .taken)
+    ∙ exit-completes _ _ _ _ _ _ (o .before .warp-refusal .ensures) (o .if1 .left) (c .before .if2 .taken)
 
 cast-go-on : tie.Need-cast-go-on
 cast-go-on c = search needs
@@ -52,11 +36,11 @@ go-on-requires c κs = search needs
 
 returns-3 : tie.Need-returns-3
 returns-3 c =
-    let o = c .before .before .before in
-    let n = o .before .before in
+    let i = c .before .before in
+    let n = i .before .before in
     c .go-on .ensures
     ∙ ap (λ (r : Barrier). goingOn (n .before .args .w) Exited 16 r) (c .before .idle-row .ensures)
-    ∙ exit-alone _ _ _ _ _ _ (n .warp-refusal .ensures) (o .before .if1 .left) _ (o .opened .ensures) (c .before .before .if2 .left)
+    ∙ exit-alone _ _ _ _ _ _ (n .warp-refusal .ensures) (i .before .if1 .left) (i .if2 .left)
 
 pub exit-spec : {M : Type 1} → statement M
 exit-spec =
@@ -65,11 +49,6 @@ exit-spec =
     warp-refusal-requires
     refuse-requires
     returns
-    opened-requires
-    cast-r
-    mul-r
-    array-copy-out-r
-    cast-complete
     complete-requires
     returns-2
     cast-go-on

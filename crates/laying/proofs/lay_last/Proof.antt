@@ -21,7 +21,7 @@ put-line-requires : tie.Need-put-line-requires
 put-line-requires c κs = search needs
 
 abbrev start : tie.After-put-line → tie.Start
-start p = p .before .before .before .before .before .before .before
+start p = p .before .before .before .before .before .before
 
 -- the line is no longer than the longest
 line-fits : (p : tie.After-put-line) → start p .args .l .at + p .put-line .result + 56 < 18446744073709551616
@@ -57,6 +57,7 @@ returns c =
     last-stop
     (now (a .out))
     (a .l)
+    (a .lines)
     (p .before .before .before .if1 .taken)
     _
     (ap (λ (k : ℕ). a .l .at + k) (p .put-line .ensures .0 ∙ ap (λ (k : ℕ). length (lineOf k (Refused (a .l .refusal)))) n))
@@ -75,8 +76,8 @@ put-end-requires-2 c κs = search needs
 add-result-2 : tie.Need-add-result-2
 add-result-2 c =
     let p = c .before .before .before in
-    let s = p .before .before .before .before .before .before in
-    omega (arith, p .put-end2 .ensures .0, end-most (s .args .l .lines .accepted) (s .args .l .lines .refused), s .pre)
+    let s = p .before .before .before .before .before in
+    omega (arith, p .put-end2 .ensures .0, end-most (s .args .lines .accepted) (s .args .lines .refused), s .pre)
 
 same-length-2 : tie.Need-same-length-2
 same-length-2 c = search needs
@@ -85,8 +86,8 @@ returns-2 : tie.Need-returns-2
 returns-2 c =
     let p = c .before .before .before in
     let e = p .before .before in
-    let a = e .before .before .before .before .args in
-    last-end (now (a .out)) (a .l) (e .if1 .left) (p .put-end2 .result) (p .put-end2 .last .0) (p .put-end2 .ensures .0) (p .put-end2 .ensures .1)
+    let a = e .before .before .before .args in
+    last-end (now (a .out)) (a .l) (a .lines) (e .if1 .left) (p .put-end2 .result) (p .put-end2 .last .0) (p .put-end2 .ensures .0) (p .put-end2 .ensures .1)
 
 pub lay-last-spec : {M : Type 1} → statement M
 lay-last-spec =

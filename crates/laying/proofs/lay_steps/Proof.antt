@@ -1,51 +1,60 @@
--- `laying::lay_steps` meets its contract: the turns of fresh tables, and what follows the last step.
+-- `laying::lay_steps` meets its contract: the turns of fresh tables, which are known to be sound.
 -- Assumes nothing.
-use mathlib.Core.Path.{ap, _∙_}
-use native.Mathlib.Omega.{arith}
+use mathlib.Core.Path.{ap, _∙_, sym, subst}
+use Prim.Native.Nat.{ℕ}
 use borrow.Author.Needs.{needs}
 use denote.Ref.{now}
-use Rattle.runs.specs.Runs.{startOf}
+use Rattle.tables.specs.Tables.{freshTables}
+use Rattle.owned.specs.declared.OwnedTurn.{OwnedTurn}
+use Rattle.owned.specs.Owner.{ownedFresh}
+use Rattle.lent.specs.Entries.{tablesOf}
+use Rattle.lent_run.specs.Run.{checkedOf}
+use Rattle.lent_run.specs.Laws.{Fits}
 use Rattle.looking.specs.declared.Laying.{Laying}
-use Rattle.laying.proofs.Buffer.{text-small, lays-all}
+use Rattle.laying.proofs.Buffer.{start-fits}
 use Rattle.laying.proofs.lay_steps.Statement.{statement}
 use Rattle.laying.proofs.lay_steps.Tie as tie
 
 fresh-owned-requires : tie.Need-fresh-owned-requires
 fresh-owned-requires c κs = search needs
 
+fresh-checked-requires : tie.Need-fresh-checked-requires
+fresh-checked-requires c κs = search needs
+
 first-place-requires : tie.Need-first-place-requires
 first-place-requires c κs = search needs
 
 lay-turns-requires : tie.Need-lay-turns-requires
 lay-turns-requires c κs =
-    let f = c .before .before .before .before .before .before in
-    let start = f .before .before .before in
-    let state = f .fresh-owned .ensures in
+    let k = c .before in
+    let f = k .before .before .before .before .before .before in
+    let begin = f .before .before .before in
+    let s = now (begin .args .trace) in
+    let same = begin .pre .1 in
+    let state = f .fresh-owned .ensures ∙ ap ownedFresh same in
     let first = c .first-place .ensures in
-    (start .pre .0, (λ i. record { state = state i .state; cursor = first i .cursor; lines = first i .lines }) ∙ ap startOf (start .pre .1), ap (λ (l : Laying). l .at) first)
-
-lay-last-requires : tie.Need-lay-last-requires
-lay-last-requires c κs =
-    let t = c .before .before .before in
-    omega (arith, t .lay-turns .ensures .size, text-small (now (t .before .before .before .before .before .before .before .before .before .before .args .trace)))
+    record {
+      unrefused = begin .pre .0;
+      start = λ i. record { state = state i .state; cursor = first i .cursor; lines = state i .state .tally };
+      place = ap (λ (l : Laying). l .at) first;
+      fits =
+          subst (λ (t : OwnedTurn). Fits (k .fresh-checked .result) (tablesOf (t .state .block) (t .state .objects))) (sym state)
+          (start-fits s (begin .pre .0) (k .fresh-checked .result) (k .fresh-checked .ensures ∙ ap (λ (w : ℕ). checkedOf (freshTables w)) same));
+    }
 
 same-length : tie.Need-same-length
 same-length c = search needs
 
 returns : tie.Need-returns
-returns c =
-    let last = c .before .before .lay-last in
-    let t = c .before .before .before .before .before .before in
-    let a = t .before .before .before .before .before .before .before .before .before .before .args in
-    lays-all (now (a .trace)) (now (a .out)) (t .lay-turns .last .1 .0) (last .last .0) (t .lay-turns .result) (last .result) (t .lay-turns .ensures) (last .ensures)
+returns c = search needs
 
 pub lay-steps-spec : {M : Type 1} → statement M
 lay-steps-spec =
     tie.close
     (tie.spec
     fresh-owned-requires
+    fresh-checked-requires
     first-place-requires
     lay-turns-requires
-    lay-last-requires
     same-length
     returns)

@@ -1,4 +1,4 @@
--- `owned::step_parts` meets its contract: a walk of its MIR, by hand. Block, array and tally lie in three locals, which are lent to the step and come back (`calls-step`).
+-- `owned::step_parts` meets its contract: a walk of its MIR, by hand. Block, array and tally lie in three locals, which are lent to the step and come back (`calls-tables`).
 -- Assumes nothing.
 use mathlib.Core.Path.{_≡_, refl}
 use mathlib.Core.List.{List, [], _∷_}
@@ -24,6 +24,7 @@ use denote.Array.{array-tells, array-lawful, array-makes}
 use denote.Steps.{only, owned, nothing}
 use denote.Struct.Laws as LL
 use denote.Enum.Laws as LE
+use denote.Signature.{plain}
 use denote.Triple.Entry.{onEntry}
 use denote.Triple.Spec.{tripleOf}
 use denote.Triple.Statement.{Contract, Triple}
@@ -51,7 +52,8 @@ use Rattle.owned.specs.Owner.{bundled, ownedStep}
 use Rattle.owned.proofs.OwnedTurn as G
 use Rattle.owned.proofs.OwnedTurn.Laws as G′
 use Rattle.lent.proofs.Spelt.{R, vals-R}
-use Rattle.lent_step.proofs.Calls.{StepOf, calls-step}
+use Rattle.lent.proofs.Calls.{calls-tables}
+use Rattle.lent_step.proofs.step as step
 use Rattle.lent_step.proofs.step.Symbol as step-def
 use Rattle.lent_step.proofs.step.Symbol.{name as #lent-step·step}
 use Rattle.lent_step.proofs.step.Met as step-thm
@@ -67,7 +69,10 @@ use Rattle.owned.proofs.step_parts.Code as code
 abbrev stayed : Stays (step-parts.ended .signature .params) (step-parts.ended .kept)
 stayed = (stay-none (λ _. B.the-row) yes, (stay-none (λ _. R) yes, (stay-none (λ _. T.the-row) yes, (stay-none (λ _. S.the-row) yes, tt))))
 
--- the contract of `bundle`
+-- the contracts of the step and of `bundle`
+abbrev StepOf : {M : Type 1} (𝓤 : URA M) (H : Heap 𝓤) (A : Atoms 𝓤) → (Memory → SProp 𝓤) → (Routine → Fun 𝓤) → Contract 𝓤
+StepOf 𝓤 H A at-mem run = tripleOf 𝓤 H A step.signature (step.spec 𝓤 H A at-mem run)
+
 abbrev Bundle : {M : Type 1} (𝓤 : URA M) (H : Heap 𝓤) (A : Atoms 𝓤) → (Memory → SProp 𝓤) → (Routine → Fun 𝓤) → Contract 𝓤
 Bundle 𝓤 H A at-mem run = tripleOf 𝓤 H A bundle.signature (bundle.spec 𝓤 H A at-mem run)
 
@@ -106,21 +111,22 @@ module _ {M : Type 1} (𝓤 : URA M) (H : Heap 𝓤) (A : Atoms 𝓤) (W : Given
         assigns ! (addr ! (from ! (stop !))) (from ! (stop !)) (init ! 12 refl (tt, tt)) $ assigns ! (addr ! (from ! (stop !))) (from ! (stop !)) (init ! 10 refl (tt, tt)) $
         assigns ! (agg ! (and-then ! (load ! (from ! (stop !)) (look ! 10 refl)) (and-then ! (lit ! tt) (no-more !)))) (from ! (stop !)) (init ! 8 refl (tt, (tt, (record { fits = lit< tt }, tt)))) $
         assigns ! (addr ! (from ! (stop !))) (from ! (stop !)) (init ! 6 refl (tt, tt)) $ move ! (20 ∷ 18 ∷ 16 ∷ []) $
-        calls-step ! fm at-mem run known-step l₅ l₆ l₇ d ys h s vs is-d is-ys is-h is-s
-        (λ _ _ _ _. and-then ! (load ! (from ! (stop !)) (look ! 16 refl)) (and-then ! (load ! (from ! (stop !)) (look ! 12 refl)) (and-then ! (load ! (from ! (stop !)) (look ! 10 refl)) (and-then ! (load ! (from ! (stop !)) (look ! 23 refl)) (no-more !))))) (λ r d′ zs h′ t.
+        calls-tables ! fm (plain (λ _. S.the-row) ∷ []) E.the-row (yes, tt) (step.clauses 𝓤 H A at-mem run) known-step (λ _ _ _. (LL.makes S.the-type S′.the-plain 𝓤 H A, tt)) (LE.val E.the-type E′.the-laws) (LE.tells E.the-type E′.the-laws)
+        l₅ l₆ l₇ d ys h (record { is-block = is-d; is-rows = is-ys; is-tally = is-h }) (λ _ _ _. (s, tt)) (λ _ _ _. (vs ∷ [], tt)) (λ _ _ _. (is-s, tt)) (λ _ _ _ _ _ _. tt) (λ _ _ _ _ _ _. id⊢ 𝓤 _) (Stepped (stateOf d ys h) s) (λ _ _ _ _ _ _ r ws. id⊢ 𝓤 _)
+        (λ _ _ _ _ _ _ _. and-then ! (load ! (from ! (stop !)) (look ! 16 refl)) (and-then ! (load ! (from ! (stop !)) (look ! 12 refl)) (and-then ! (load ! (from ! (stop !)) (look ! 10 refl)) (and-then ! (load ! (from ! (stop !)) (look ! 23 refl)) (no-more !))))) (λ r d′ zs h′ stepped is-r t.
         -- [_5; _6; _7; _15; …; and so on to _8; that _7, _6 and _5 die; _4; …; and so on to _0; true; what the parameters own]
-        land ! (from ! (stop !)) (init ! 17 refl (LE.lawful E.the-type E′.the-laws 𝓤 H A W tt .typed r _ (t .is-verdict) .0)) $
+        land ! (from ! (stop !)) (init ! 17 refl (LE.lawful E.the-type E′.the-laws 𝓤 H A W tt .typed r _ is-r .0)) $
         assigns ! (of-opd ! (load ! (from ! (stop !)) (look ! 0 refl))) (from ! (stop !)) (init ! 7 refl (typed-B d′ (t .is-block))) $
         assigns ! (of-opd ! (load ! (from ! (stop !)) (look ! 1 refl))) (from ! (stop !)) (init ! 5 refl (typed-R zs (t .is-rows))) $
         assigns ! (of-opd ! (load ! (from ! (stop !)) (look ! 2 refl))) (from ! (stop !)) (init ! 3 refl (typed-T h′ (t .is-tally))) $
         calls-exact ! fm (bundle.signature .params) G.the-row (bundle.ended .kept) (bundle.clauses 𝓤 H A at-mem run) known-bundle
         (LE.makes E.the-type E′.the-plain 𝓤 H A, (LL.makes B.the-type B′.the-plain 𝓤 H A, (array-makes 𝓤 H A W O.the-row (LL.makes O.the-type O′.the-plain 𝓤 H A) 64, (LL.makes T.the-type T′.the-plain 𝓤 H A, tt)))) (LL.val G.the-type G′.the-laws) (LL.tells G.the-type G′.the-laws)
-        (r, (d′, (zs, (h′, tt)))) (LE.vals E.the-type E′.the-laws r, (LL.vals B.the-type B′.the-laws d′, (vals-R zs, (LL.vals T.the-type T′.the-laws h′, tt)))) (t .is-verdict, (t .is-block, (t .is-rows, (t .is-tally, tt)))) tt (id⊢ 𝓤 _) (bundled r d′ zs h′) (λ r′ e′. id⊢ 𝓤 _)
+        (r, (d′, (zs, (h′, tt)))) (LE.vals E.the-type E′.the-laws r, (LL.vals B.the-type B′.the-laws d′, (vals-R zs, (LL.vals T.the-type T′.the-laws h′, tt)))) (is-r, (t .is-block, (t .is-rows, (t .is-tally, tt)))) tt (id⊢ 𝓤 _) (bundled r d′ zs h′) (λ r′ e′. id⊢ 𝓤 _)
         (and-then ! (load ! (from ! (stop !)) (look ! 18 refl)) (and-then ! (load ! (from ! (stop !)) (look ! 8 refl)) (and-then ! (load ! (from ! (stop !)) (look ! 6 refl)) (and-then ! (load ! (from ! (stop !)) (look ! 4 refl)) (no-more !))))) (λ is-g.
         land ! (from ! (stop !)) (init ! 30 refl (LL.lawful G.the-type G′.the-laws 𝓤 H A W .typed (bundled r d′ zs h′) _ is-g .0)) $ returns ! (look ! 30 refl) $
         move ! (30 ∷ 31 ∷ []) $ gone1 ! $ move ! (28 ∷ 29 ∷ []) $ gone1 ! $ move ! (26 ∷ 27 ∷ []) $ gone1 ! $ move ! (24 ∷ 25 ∷ []) $ gone1 ! $ move ! (22 ∷ 23 ∷ []) $ gone1 ! $ move ! (0 ∷ 21 ∷ []) $ gone1 ! $
         move ! (0 ∷ 19 ∷ []) $ gone1 ! $ move ! (0 ∷ 17 ∷ []) $ gone1 ! $ move ! (14 ∷ 15 ∷ []) $ gone1 ! $ move ! (12 ∷ 13 ∷ []) $ gone1 ! $ move ! (10 ∷ 11 ∷ []) $ gone1 ! $ move ! (8 ∷ 9 ∷ []) $ gone1 ! $
-        move ! (6 ∷ 7 ∷ []) $ gone1 ! $ move ! (4 ∷ 5 ∷ []) $ gone1 ! $ move ! (2 ∷ 3 ∷ []) $ gone1 ! $ move ! (0 ∷ 1 ∷ []) $ gone1 ! $ free0 ! $ keep ! [] $ by ! (exits r d′ zs h′ (t .stepped) is-g)))))))))))))))))))
+        move ! (6 ∷ 7 ∷ []) $ gone1 ! $ move ! (4 ∷ 5 ∷ []) $ gone1 ! $ move ! (2 ∷ 3 ∷ []) $ gone1 ! $ move ! (0 ∷ 1 ∷ []) $ gone1 ! $ free0 ! $ keep ! [] $ by ! (exits r d′ zs h′ stepped is-g)))))))))))))))))))
       where
         typed-B : (c : Block) → Is B.the-row c (LL.vals B.the-type B′.the-laws c) → Tr (hasTy B′.mir (LL.val B.the-type B′.the-laws c)) × WT (LL.val B.the-type B′.the-laws c)
         typed-B c is = LL.lawful B.the-type B′.the-laws 𝓤 H A W .typed c _ is .0
