@@ -8,8 +8,15 @@ namespace peer {
 Answer Block::take(const Step &step) {
   Answer answer;
   answer.refusal = refusal(step);
-  if (answer.refusal != 0) return answer;
-  if (step.kind == Kind::exit) return leave(step);
+  if (answer.refusal != 0) {
+    if (step.kind == Kind::exit) refused_exits_.insert(step.warp);
+    return answer;
+  }
+  if (step.kind == Kind::exit) {
+    answer = leave(step);
+    last_exited_ = step.warp;
+    return answer;
+  }
   if (names_barrier(step.kind)) return meet(step);
   if (names_object(step.kind)) return act(step);
   // The pending count of a token.
@@ -42,7 +49,9 @@ bool Block::complete(const Barrier &row) const {
   if (row.threads != 0) return lanes * row.arrived.size() == row.threads;
   for (u64 w = 0; w < tables_.warps; ++w) {
     const bool left = tables_.warp[w].status == Status::exited;
-    if (left && !is(Fault::all_counts_exited)) continue;
+    if (is(Fault::refused_exit_counts) && refused_exits_.count(w) != 0) continue;
+    const bool forgotten = is(Fault::last_exited_waited_for) && w == last_exited_;
+    if (left && !forgotten && !is(Fault::all_counts_exited)) continue;
     if (row.arrived.count(w) == 0) return false;
   }
   return true;

@@ -142,6 +142,8 @@ class Block {
   // What only a seeded fault has to remember.
   std::array<i64, object_count> init_count_{};
   std::array<bool, last_barrier + 1> complemented_{};
+  std::set<u64> refused_exits_;
+  u64 last_exited_ = most_warps;
 };
 
 // A step that was read from a trace, its answer, and the barriers that were active when it came.
