@@ -1,7 +1,7 @@
 -- Going on with tables that were checked once, or are fresh: what a check finds, and what a step answers and leaves without another.
 -- Assumes nothing.
 use mathlib.Core.Path.{_≡_}
-use mathlib.Core.Bool.{Bool, cond, _&&_}
+use mathlib.Core.Bool.{Bool, cond}
 use mathlib.Core.List.{List, [], _∷_}
 use Prim.Native.Nat.{ℕ}
 use lib.ListN.{getD, set}
@@ -12,7 +12,6 @@ use Rattle.block.specs.declared.Block.{Block}
 use Rattle.block.specs.declared.Verdict.{Verdict}
 use Rattle.block.specs.Tables.{liveOf}
 use Rattle.barriers.specs.Changes.{changed}
-use Rattle.soundness.specs.declared.Survey.{Survey}
 use Rattle.tables.specs.declared.Tally.{Tally}
 use Rattle.tables.specs.Tables.{Tables, soundTables, slotOf, tallied}
 use Rattle.tables.specs.Effect.{State, liveAfter}
@@ -30,10 +29,6 @@ known sound live = record { sound = sound; live = cond sound live 0 }
 -- what a check finds
 abbrev pub checkedOf : Tables → Checked
 checkedOf t = known (soundTables t) (liveOf (t .block))
-
--- the same by its parts: what was seen of the block, and whether the object rows are sound
-abbrev pub foundIn : Survey → Bool → Checked
-foundIn v fine = known (v .sound && fine) (v .live)
 
 -- after a step with this verdict: as sound as before, and only an accepted exit changes who is live
 unfoldable pub checkedAfter : Checked → Step → Verdict → Checked

@@ -1,16 +1,16 @@
 // The way in for a run: tables are checked once, or are fresh, and then gone on with step after step without a check. Who is live is kept beside them.
-use block::BARRIER_COUNT;
 use block::Block;
 use block::MOST_WARPS;
 use block::Verdict;
 use object::Object;
-use soundness::Survey;
 use steps::Step;
 use tables::Tally;
 ghost use mathlib.Core.Path.{_≡_};
+ghost use mathlib.Core.Bool.{_&&_};
+ghost use Rattle.block.specs.Tables.{liveOf, soundBlock};
 ghost use Rattle.tables.specs.Tables.{freshTables, isAccepted};
 ghost use Rattle.lent.specs.Entries.{tablesOf, stateOf};
-ghost use Rattle.lent_run.specs.Run.{checkedOf, foundIn, checkedAfter, GoneOn};
+ghost use Rattle.lent_run.specs.Run.{known, checkedOf, checkedAfter, GoneOn};
 
 // What is known of tables: whether they are sound and, where they are, which warps have not exited. No other crate makes one: a check does, fresh tables have one, and going on hands the next one back.
 pub struct Checked {
@@ -40,19 +40,19 @@ pub fn fresh_checked(warps: u8) -> Checked
     }
 }
 
-// What a check found: in the block, and whether the object rows are sound.
-fn found(whole: Survey, fine: bool) -> Checked
-    ensures { λ r. ⌜ r ≡ foundIn whole fine ⌝ }
+// What a check finds in a block, where the object rows are sound or not.
+fn found(b: Block, fine: bool) -> Checked
+    ensures { λ r. ⌜ r ≡ known (soundBlock b && fine) (liveOf b) ⌝ }
 {
-    if whole.sound & fine {
+    if !(block_sound::sound(b) & fine) {
         return Checked {
-            sound: true,
-            live: whole.live,
+            sound: false,
+            live: 0,
         };
     }
     Checked {
-        sound: false,
-        live: 0,
+        sound: true,
+        live: block_sound::live(b),
     }
 }
 
@@ -61,8 +61,7 @@ pub fn check(b: &mut Block, objects: &[Object]) -> Checked
     ensures { λ r. ⌜ (r ≡ checkedOf (tablesOf (now (b .entry)) (now (objects .entry)))) × (now (b .exit) ≡ now (b .entry)) ⌝ }
 {
     let fine = all_rows::rows_sound(objects);
-    let whole = lent_survey::survey_of(&mut *b, MOST_WARPS, BARRIER_COUNT);
-    found(whole, fine)
+    found(*b, fine)
 }
 
 // Whether a verdict is no refusal.

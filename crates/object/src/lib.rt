@@ -1,7 +1,8 @@
-// One mbarrier object's row by value: its token, init and inval.
+// One mbarrier object's row by value: when it is sound, its token, init and inval.
 ghost use mathlib.Core.Path.{_≡_};
 ghost use Rattle.object.specs.Tokens.{token, pendingCount};
 ghost use Rattle.object.specs.Row.{dead, outside, stepRow};
+ghost use Rattle.object.specs.Soundness.{liveSound, deadSound, soundRow};
 
 // The most that is expected, and the most transactions either way.
 pub const MOST: u32 = 1048575;
@@ -77,11 +78,31 @@ pub fn outside(z: i64) -> bool
     (z < -(MOST as i64)) | ((MOST as i64) < z)
 }
 
-// The same of a row's own count, without making an i64 of it: the check of all rows asks this of each live one.
-pub fn row_outside(tx: i32) -> bool
-    ensures { λ r. ⌜ r ≡ outside tx ⌝ }
+// Whether a live row is sound; every u32 is a phase.
+fn live_sound(o: Object) -> bool
+    ensures { λ r. ⌜ r ≡ liveSound o ⌝ }
 {
-    (tx < -(MOST as i32)) | ((MOST as i32) < tx)
+    ((1 <= o.expected) & (o.expected <= MOST))
+        & (o.pending <= o.expected)
+        & !outside(o.tx as i64)
+        & ((o.phase != 0) | o.seen)
+}
+
+// Whether a dead row is sound: it is zero.
+fn dead_sound(o: Object) -> bool
+    ensures { λ r. ⌜ r ≡ deadSound o ⌝ }
+{
+    (o.expected == 0) & (o.pending == 0) & (o.tx == 0) & (o.phase == 0) & !o.seen
+}
+
+// Whether a row is sound.
+pub fn sound(o: Object) -> bool
+    ensures { λ r. ⌜ r ≡ soundRow o ⌝ }
+{
+    if o.live {
+        return live_sound(o);
+    }
+    dead_sound(o)
 }
 
 // The token of a row's state: phase, slot (address divided by 8) and pending count in one number.

@@ -1,2 +1,0 @@
-pub mod Noted
-pub mod Gathered
