@@ -91,7 +91,7 @@ fn rows_sound(b: Block) -> bool
     let mut k: u8 = 0;
     while k < BARRIER_COUNT {
         let row = b.barriers[k as usize];
-        if !row_soundness::row_sound(n, alive, row) {
+        if !barrier_sound::row_sound(n, alive, row) {
             return false;
         }
         k += 1;

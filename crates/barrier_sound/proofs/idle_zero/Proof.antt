@@ -1,7 +1,7 @@
 use borrow.Author.Needs.{needs}
 use Rattle.folds.specs.Folds.{every}
-use Rattle.row_soundness.proofs.idle_zero.Statement.{statement}
-use Rattle.row_soundness.proofs.idle_zero.Tie as tie
+use Rattle.barrier_sound.proofs.idle_zero.Statement.{statement}
+use Rattle.barrier_sound.proofs.idle_zero.Tie as tie
 
 form-number-requires : tie.Need-form-number-requires
 form-number-requires c κs = search needs

@@ -1,6 +1,6 @@
 use borrow.Author.Needs.{needs}
-use Rattle.row_soundness.proofs.all_open.Statement.{statement}
-use Rattle.row_soundness.proofs.all_open.Tie as tie
+use Rattle.barrier_sound.proofs.all_open.Statement.{statement}
+use Rattle.barrier_sound.proofs.all_open.Tie as tie
 
 form-number-requires : tie.Need-form-number-requires
 form-number-requires c κs = search needs
