@@ -62,7 +62,8 @@ class Drawing(Tree):
         self.assertEqual((made.returncode, made.stdout, made.stderr), (0, DRAWN, ""))
 
     def test_a_circle_and_a_bad_line_are_named(self) -> None:
-        for crates, said in (("a: b\nb: a\n", "a is below itself"), ("a:\na:\n", "crates.txt:2:"), ("a\n", "crates.txt:1:")):
+        for crates, said in (("a: b\nb: a\n", "a is below itself"), ("a:\na:\n", "crates.txt:2:"),
+                             ("a\n", "crates.txt:1:")):
             self.put("", crates)
             made = self.run_tool()
             self.assertEqual((made.returncode, made.stdout), (1, ""))
@@ -70,7 +71,8 @@ class Drawing(Tree):
 
     def test_an_output_that_is_full_is_told(self) -> None:
         with open("/dev/full", "w", encoding="utf-8") as full:
-            made = subprocess.run([sys.executable, str(TOOL)], stdout=full, stderr=subprocess.PIPE, text=True, check=False)
+            made = subprocess.run([sys.executable, str(TOOL)], stdout=full, stderr=subprocess.PIPE,
+                                  text=True, check=False)
         self.assertEqual(made.returncode, 1)
         self.assertIn("can't be written", made.stderr)
 
@@ -80,7 +82,8 @@ class Readme(Tree):
         self.assertEqual(self.run_tool("--check").returncode, 1)
         self.readme.chmod(0o640)
         self.assertEqual(self.run_tool("--write").returncode, 0)
-        self.assertEqual(self.readme.read_text(encoding="utf-8"), f"before\n<!-- map -->\n{DRAWN}<!-- /map -->\nafter\n")
+        self.assertEqual(self.readme.read_text(encoding="utf-8"),
+                         f"before\n<!-- map -->\n{DRAWN}<!-- /map -->\nafter\n")
         self.assertEqual(self.readme.stat().st_mode & 0o777, 0o640)
         self.assertEqual(self.run_tool("--check").returncode, 0)
         self.assertEqual(sorted(os.listdir(self.root)), ["README.md", "crates.txt"])

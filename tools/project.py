@@ -1,4 +1,4 @@
-"""The project as its files lay it out: the crates of crates.txt by layer, and a file that is written whole or not at all."""
+"""The crates of crates.txt by layer, and a file that is read, or written whole or not at all."""
 import os
 import pathlib
 import tempfile
@@ -51,7 +51,7 @@ def write_whole(path: pathlib.Path, text: str) -> None:
 
 
 def crates_of(root: pathlib.Path) -> Project:
-    """crates.txt: a comment line is the title of the layer below it, and every other line is `crate: the crates it uses`."""
+    """crates.txt: a comment line is the title of a layer, and every other line is `crate: the crates it uses`."""
     layers: List[Layer] = []
     uses: Dict[str, List[str]] = {}
     for number, line in enumerate(read_text(root / "crates.txt").splitlines(), 1):
