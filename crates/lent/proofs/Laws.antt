@@ -13,6 +13,7 @@ use Rattle.folds.specs.Lowest.{Lowest, ascending, holds}
 use Rattle.folds.proofs.Lowest.{lowest-given}
 use Rattle.object.specs.Row.{dead}
 use Rattle.block.specs.declared.Verdict.{Verdict}
+use Rattle.block.specs.declared.Turn.{Turn}
 use Rattle.block.specs.declared.Verdict.the-variants.{Refused, Accepted}
 use Rattle.block.specs.Tables.{soundBlock, freshBlock}
 use Rattle.block_laws.proofs.Sound as block-laws
@@ -21,16 +22,25 @@ use Rattle.tables.specs.Tables.{Tables, soundObjects, viewOf, isAccepted, numbe
 use Rattle.tables.specs.Refusals.{lines}
 use Rattle.tables.specs.Effect.{verdict}
 use Rattle.tables.specs.Laws.{Sound}
-use Rattle.tables.proofs.Laws.{refused-exactly, refused-leaves-all, objects-left}
+use Rattle.tables.proofs.Laws as tables
+use Rattle.tables.proofs.Laws.{refused-leaves-all, objects-left}
 use Rattle.tables.proofs.Kept as kept
 use Rattle.lent.specs.Entries.{tablesOf, freshLines, freshRefusal, freshTurn}
 use Rattle.lent.proofs.Entries.{some-warps}
-use Rattle.lent.specs.Laws.{RefusedExactly, RefusedLeaves, OthersLeft, KeepsSound, FreshExactly, FreshSound, NoneUnsound}
+use Rattle.lent.specs.Laws.{OneAnswer, OneFreshAnswer, RefusedExactly, RefusedLeaves, OthersLeft, KeepsSound, FreshExactly, FreshSound, NoneUnsound}
 
 -- ---- a step
 
-pub step-refused : RefusedExactly
-step-refused x s v b l y e n = subst (λ (u : Verdict). (u ≡ Refused n) ↔ Lowest (lines (viewOf (x .tables) s) s) n) (sym (e .verdict)) (refused-exactly (x .tables) s n)
+pub one-answer : OneAnswer
+one-answer x s v v′ b b′ l l′ y y′ e f = record {
+  verdict = e .verdict ∙ sym (f .verdict);
+  block = e .block ∙ sym (f .block);
+  objects = e .objects ∙ sym (f .objects);
+  tally = e .tally ∙ sym (f .tally);
+}
+
+pub refused-exactly : RefusedExactly
+refused-exactly x s v b l y e n = subst (λ (u : Verdict). (u ≡ Refused n) ↔ Lowest (lines (viewOf (x .tables) s) s) n) (sym (e .verdict)) (tables.refused-exactly (x .tables) s n)
 
 -- a refusal adds one to the refused number
 counts : (y : Tally) (v : Verdict) → isAccepted v ≡ false → tallied y v ≡ record { accepted = y .accepted; refused = counted (y .refused) }
@@ -55,6 +65,16 @@ keeps-sound x s v b l y e h = subst Sound (sym (λ i. tablesOf (e .block i) (e .
 
 -- ---- fresh tables
 
+pub one-fresh-answer : OneFreshAnswer
+one-fresh-answer l₀ y₀ w r r′ l l′ y y′ e f =
+    let same = e .answer ∙ sym (f .answer) in
+    record {
+      verdict = ap (λ (t : Turn). t .verdict) same;
+      block = ap (λ (t : Turn). t .block) same;
+      objects = e .objects ∙ sym (f .objects);
+      tally = e .tally ∙ sym (f .tally);
+    }
+
 -- the turn where a number is given, and where none is
 given-some : (m w : ℕ) → (m ≡ 0 → ⊥) → freshTurn m w ≡ record { verdict = Refused m; block = freshBlock 0 }
 given-some m w h = rw (ne-eqb m 0 h)
@@ -77,9 +97,9 @@ above-zero : (rows w n : ℕ) → Lowest (freshLines rows w) n → n ≡ 0 → �
 unfolding holds
 above-zero rows w n h e = false≢true (subst (λ (k : ℕ). holds (freshLines rows w) k ≡ true) e (h .here))
 
-pub fresh-refused : FreshExactly
+pub fresh-exactly : FreshExactly
 unfolding freshRefusal ascending
-fresh-refused l₀ y₀ w r l y e n = (to, of)
+fresh-exactly l₀ y₀ w r l y e n = (to, of)
   where
     m : ℕ
     m = freshRefusal (length l₀) w

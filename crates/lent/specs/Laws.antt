@@ -23,6 +23,18 @@ use Rattle.lent.specs.Entries.{tablesOf, Stepped, freshLines, Freshened}
 
 -- ---- a step
 
+-- two answers that the promise allows are the same: verdict, block, list and tally
+pub record Same (v v′ : Verdict) (b b′ : Block) (l l′ : List Object) (y y′ : Tally) : Type 0 where
+  pub verdict : v ≡ v′
+  pub block : b ≡ b′
+  pub objects : l ≡ l′
+  pub tally : y ≡ y′
+
+abbrev pub OneAnswer : Type 0
+OneAnswer =
+    (x : State) (s : Step) (v v′ : Verdict) (b b′ : Block) (l l′ : List Object) (y y′ : Tally)
+    → Stepped x s v b l y → Stepped x s v′ b′ l′ y′ → Same v v′ b b′ l l′ y y′
+
 -- it is refused with n exactly when line n applies and no lower line does
 abbrev pub RefusedExactly : Type 0
 RefusedExactly =
@@ -51,6 +63,12 @@ KeepsSound =
     → Sound (x .tables) → Sound (tablesOf b l)
 
 -- ---- fresh tables
+
+-- two answers that the promise allows are the same
+abbrev pub OneFreshAnswer : Type 0
+OneFreshAnswer =
+    (l₀ : List Object) (y₀ : Tally) (w : ℕ) (r r′ : Turn) (l l′ : List Object) (y y′ : Tally)
+    → Freshened l₀ y₀ w r l y → Freshened l₀ y₀ w r′ l′ y′ → Same (r .verdict) (r′ .verdict) (r .block) (r′ .block) l l′ y y′
 
 -- they are refused with n exactly when line n applies and no lower line does
 abbrev pub FreshExactly : Type 0

@@ -16,8 +16,8 @@ use Rattle.object.specs.declared.Answer.{Answer}
 use Rattle.object.specs.declared.Answer.the-variants.{Refused, Accepted}
 use Rattle.folds.specs.Lowest.{ascending, holds, Lowest}
 use Rattle.object.specs.Tokens.{slotIn, tooLarge}
-use Rattle.object.specs.Row.{isZero, bothZero, acted, mayEnd, ends, nextPhase, rowAfter, valueOf, badArrival, farPhase, lines, refusal, unless, stepRow, rowOf}
-use Rattle.object.specs.Steps.{RefusedExactly, AcceptedExactly, RefusedLeaves, Completed, CompletesSo, CompletesExactly, ExpectCompletesNone, OwnToken, Arrived, ArrivesSo}
+use Rattle.object.specs.Row.{isZero, bothZero, acted, mayEnd, ends, nextPhase, rowAfter, valueOf, badArrival, farPhase, lines, refusal, unless, stepRow}
+use Rattle.object.specs.Steps.{RefusedExactly, AcceptedExactly, Completed, CompletesSo, CompletesExactly, ExpectCompletesNone, OwnToken, Arrived, ArrivesSo}
 use Rattle.object.proofs.Row.{or-left, or-right, count-within, count-below}
 use Rattle.folds.proofs.Lowest.{lowest-given, none-holds}
 
@@ -70,9 +70,6 @@ accepted-exactly o slot a = (
   λ e. none-holds (lines o slot a) (goes-up o slot a) .0 (accepted-as o slot a _ _ _ e .0),
   λ f. ap (λ (n : ℕ). unless n (Accepted (rowAfter o a) (valueOf o slot a) (ends o a))) (none-holds (lines o slot a) (goes-up o slot a) .1 f),
 )
-
-pub refused-leaves : RefusedLeaves
-refused-leaves o slot a n e = ap (rowOf o) e
 
 -- ---- a completed phase
 

@@ -258,8 +258,3 @@ unless (suc n) a = Refused (suc n)
 -- a step on the row of the object at a slot, which is its address divided by 8
 unfoldable pub stepRow : Object → ℕ → Act → Answer
 stepRow o slot a = unless (refusal o slot a) (Accepted (rowAfter o a) (valueOf o slot a) (ends o a))
-
--- the row after an answer: a refusal leaves the row
-abbrev pub rowOf : Object → Answer → Object
-rowOf o (Refused n) = o
-rowOf o (Accepted o′ v d) = o′

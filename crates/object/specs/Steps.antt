@@ -11,7 +11,7 @@ use Rattle.object.specs.declared.Act.the-variants.{Arrive, Expect, Token
 use Rattle.object.specs.declared.Answer.the-variants.{Refused, Accepted}
 use Rattle.folds.specs.Lowest.{Lowest, None}
 use Rattle.object.specs.Tokens.{slotIn}
-use Rattle.object.specs.Row.{acted, mayEnd, ends, rowAfter, valueOf, lines, stepRow, rowOf}
+use Rattle.object.specs.Row.{acted, mayEnd, ends, rowAfter, valueOf, lines, stepRow}
 
 -- a step is refused with n exactly when line n holds and no lower line does
 abbrev pub RefusedExactly : Type 0
@@ -20,10 +20,6 @@ RefusedExactly = (o : Object) (slot : ℕ) (a : Act) (n : ℕ) → (stepRow o sl
 -- it is accepted exactly when no line holds
 abbrev pub AcceptedExactly : Type 0
 AcceptedExactly = (o : Object) (slot : ℕ) (a : Act) → (stepRow o slot a ≡ Accepted (rowAfter o a) (valueOf o slot a) (ends o a)) ↔ None (lines o slot a)
-
--- a refused step leaves the row
-abbrev pub RefusedLeaves : Type 0
-RefusedLeaves = (o : Object) (slot : ℕ) (a : Act) (n : ℕ) → stepRow o slot a ≡ Refused n → rowOf o (stepRow o slot a) ≡ o
 
 -- what a step that completes a phase is, and the row that it leaves
 pub record Completed (o : Object) (a : Act) (o′ : Object) : Type 0 where

@@ -23,7 +23,7 @@ and-left-comm true b c = refl
 and-left-comm false true c = refl
 and-left-comm false false c = refl
 
-total-perm : (f : Share → ℕ) {l l′ : List Step} → Perm l l′ → total f l ≡ total f l′
+pub total-perm : (f : Share → ℕ) {l l′ : List Step} → Perm l l′ → total f l ≡ total f l′
 total-perm f p = Perm·foldr-eq ℕ-set (λ s n. f (brings (s .op)) + n) (λ s u n. add-left-comm (f (brings (s .op))) (f (brings (u .op))) n) p 0
 
 each-perm : (q : Step → Bool) {l l′ : List Step} → Perm l l′ → each q l ≡ true → each q l′ ≡ true

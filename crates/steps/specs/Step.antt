@@ -7,7 +7,7 @@ use lib.ListN.{length, getD, drop}
 use lib.Dec.{ltb, eqb}
 use Rattle.fields.specs.Num.{laid}
 use Rattle.fields.specs.Row.{total, decode, encode}
-use Rattle.folds.specs.Folds.{lowest}
+use Rattle.folds.specs.Folds.{Line, lowest}
 use Rattle.steps.specs.declared.BarrierStep.{BarrierStep}
 use Rattle.steps.specs.declared.BarrierStep.the-variants as barrier
 use Rattle.steps.specs.declared.ObjectStep.{ObjectStep}
@@ -100,8 +100,12 @@ unknownKind s at = ltb at (length s) && eqb (lengthOf (kindAt s at)) 0
 abbrev pub tooFew : List ℕ → ℕ → Bool
 tooFew s at = ltb (length s) (at + 1 + lengthOf (kindAt s at))
 
+-- the two lines, of which the lowest is given
+abbrev pub readLines : List ℕ → ℕ → List Line
+readLines s at = (unknownKind s at, 1) ∷ (tooFew s at, 2) ∷ []
+
 abbrev pub readRefusal : List ℕ → ℕ → ℕ
-readRefusal s at = lowest ((unknownKind s at, 1) ∷ (tooFew s at, 2) ∷ [])
+readRefusal s at = lowest (readLines s at)
 
 -- the step that stands at a place, with the place after it; or the refusal
 unfoldable pub readAt : List ℕ → ℕ → Read
