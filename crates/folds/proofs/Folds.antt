@@ -75,12 +75,6 @@ unfolding all
 all-of p zero h = refl
 all-of p (suc n) h = rw (all-of p n (λ i l. h i (omega arith)), h n (omega arith))
 
--- tests that agree at each number agree
-pub all-cong : (p q : ℕ → Bool) (n : ℕ) → ((i : ℕ) → i < n → p i ≡ q i) → all n p ≡ all n q
-unfolding all
-all-cong p q zero h = refl
-all-cong p q (suc n) h = rw (all-cong p q n (λ i l. h i (omega arith)), h n (omega arith))
-
 -- ---- the first number of which a test holds
 
 -- none below k, and none at k

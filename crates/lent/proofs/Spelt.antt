@@ -1,4 +1,4 @@
--- What a step is lent and what it answers, each as one machine value: the block, the array of rows, the tally, a verdict.
+-- What a step is lent, each as one machine value: the block, the array of rows, the tally.
 -- Assumes nothing.
 use mathlib.Core.Path.{_≡_, subst}
 use mathlib.Core.List.{List, [], _∷_}
@@ -7,16 +7,12 @@ use denote.RattleType.{RattleType}
 use denote.Laws.{Is}
 use denote.Array.{Array, array-vals, array-tells}
 use denote.Struct.Laws as LL
-use denote.Enum.Laws as LE
 use Rattle.object.specs.declared.Object.{Object}
 use Rattle.object.proofs.Object as O
 use Rattle.object.proofs.Object.Laws as O′
 use Rattle.block.specs.declared.Block.{Block}
-use Rattle.block.specs.declared.Verdict.{Verdict}
 use Rattle.block.proofs.Block as B
 use Rattle.block.proofs.Block.Laws as B′
-use Rattle.block.proofs.Verdict as E
-use Rattle.block.proofs.Verdict.Laws as E′
 use Rattle.tables.specs.declared.Tally.{Tally}
 use Rattle.tables.proofs.Tally as T
 use Rattle.tables.proofs.Tally.Laws as T′
@@ -36,9 +32,6 @@ spelt-R zs u is = subst (Is R zs) (tells-R zs (u ∷ []) is) is
 
 pub spelt-B : (d : Block) (u : Val) → Is B.the-row d (u ∷ []) → Is B.the-row d (LL.vals B.the-type B′.the-laws d)
 spelt-B d u is = subst (Is B.the-row d) (LL.tells B.the-type B′.the-laws d (u ∷ []) is) is
-
-pub spelt-E : (v : Verdict) (u : Val) → Is E.the-row v (u ∷ []) → Is E.the-row v (LE.vals E.the-type E′.the-laws v)
-spelt-E v u is = subst (Is E.the-row v) (LE.tells E.the-type E′.the-laws v (u ∷ []) is) is
 
 pub spelt-T : (t : Tally) (u : Val) → Is T.the-row t (u ∷ []) → Is T.the-row t (LL.vals T.the-type T′.the-laws t)
 spelt-T t u is = subst (Is T.the-row t) (LL.tells T.the-type T′.the-laws t (u ∷ []) is) is

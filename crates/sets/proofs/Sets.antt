@@ -4,7 +4,7 @@ use mathlib.Core.Path.{_≡_, refl, sym, ap, ap₂, _∙_, subst}
 use mathlib.Core.Bool.{Bool, true, false, not, cond, _&&_, _||_, or-false, or-true, and-true, and-false, false≢true}
 use mathlib.Core.Logic.{⊎-elim}
 use Prim.Native.Nat.{ℕ, zero, suc, _+_, _-_, _*_, _/_, _%_, _^_, _<_, _≤_, min}
-use native.Mathlib.Nat.{mod-lt, mod-one, mul-comm, mul-assoc, one-mul, add-comm, pow-suc, mul-mod-left, mod-eq-of-lt, div-eq-of-lt, not-suc-le-zero, le-of-suc-le-suc, eq-or-lt-of-le, lt-of-lt-of-le, lt-of-le-of-lt, add-zero, add-suc, zero-mul}
+use native.Mathlib.Nat.{mod-lt, mod-one, mul-comm, mul-assoc, one-mul, add-comm, pow-suc, mul-mod-left, mod-eq-of-lt, div-eq-of-lt, not-suc-le-zero, le-of-suc-le-suc, eq-or-lt-of-le, lt-of-lt-of-le, lt-of-le-of-lt, add-zero}
 use native.Mathlib.Numerals.{add-one, one-add}
 use native.Mathlib.Omega.{arith}
 use lib.Arith.{bin-ind, lt-of-le-ne, lt-one}
@@ -351,12 +351,6 @@ shifted false w h = shl-exact 1 w 32 (lit< tt) (omega arith)
 pub setOf-more : (p : ℕ → Bool) (w : ℕ) (b : Bool) → w < 32 → b ≡ p w → setOf w p + boolByte b * 2 ^ w % 2 ^ 32 ≡ setOf (w + 1) p
 unfolding setOf
 setOf-more p w b h e = rw (shifted b w h, add-one, e)
-
--- where the test holds of no number from n on, none more is put in
-pub setOf-far : (p : ℕ → Bool) (n k : ℕ) → ((i : ℕ) → n ≤ i → p i ≡ false) → setOf n p ≡ setOf (n + k) p
-unfolding setOf
-setOf-far p n zero none = rw (add-zero n)
-setOf-far p n (suc k) none = rw (add-suc n k, none (n + k) (omega arith), zero-mul (2 ^ (n + k)), add-zero (setOf (n + k) p)) (setOf-far p n k none)
 
 -- tests that agree make the same set
 pub setOf-cong : (p q : ℕ → Bool) (n : ℕ) → ((i : ℕ) → i < n → p i ≡ q i) → setOf n p ≡ setOf n q

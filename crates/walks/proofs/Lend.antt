@@ -3,7 +3,6 @@
 --     rows-shared      rows lent as a `&[T]`.        rows-shared-back      they come back as they were
 --     rows-lent        rows lent as a `&mut [T]`.        rows-lent-back      they come back at the last list
 --     record-lent      a record lent as a `&mut T`.        record-lent-back      it comes back at its last value
---     record-shared    a share of a record lent as a `&T`.        record-shared-back      it comes back as it was
 --     part-shut        a value's cell with what it owns is the value in memory
 --     calls-lending    the call: the function's first parameter is the reference, the others are by value, and its `ensures` says its result
 -- Positions: in the operands every position is one higher than before the call.
@@ -31,11 +30,11 @@ use denote.RattleType.{RattleType, owns, Denots, Valss}
 use denote.Laws.{Is, Ises, Are, Tells, Makess, shows, owns-make}
 use denote.Memory.{cellAt, partOf, partAt, mem, shares}
 use denote.Slice.{sliceVal, Room, finally}
-use denote.Lend.{Held, lends-ref, ref-back, lends-slice, slice-back, lends-shr, lends-shr-slice}
+use denote.Lend.{Held, lends-ref, ref-back, lends-slice, slice-back, lends-shr-slice}
 use denote.Index.{row, whole-out, whole-in}
 use denote.Exit.{Kept, yes, Last, left}
 use denote.Steps.{only, peeks, heard, nothing}
-use denote.Signature.{Slot, plain, typesAt, mutRefTo, mutSliceOf, shrRefTo, shrSliceOf}
+use denote.Signature.{Slot, plain, typesAt, mutRefTo, mutSliceOf, shrSliceOf}
 use denote.Triple.End.{Kepts}
 use denote.Triple.Clauses.{Ended, Clauses, Lasts, atExit, closing, lasts}
 use denote.Triple.Spec.{tripleOf}
@@ -91,17 +90,6 @@ module _ {M : Type 1} (𝓤 : URA M) (H : Heap 𝓤) (A : Atoms 𝓤) (W : Given
 
   pub record-lent-back : (h : R .Denot) (κ : Lft) (δ : GName) (h′ : R .Denot) → Back 𝓤 H A (mutRefTo (0 ∷ []) tt (plain (λ _. R))) (partAt R fullShare h b o) (record-lent h) yes κ δ h′ (partAt R fullShare h′ b o)
   record-lent-back h κ δ h′ = ref-back 𝓤 H A W R κ δ h′ b o
-
-  abbrev pub record-shared : (t : Share) (h : R .Denot) → Loan 𝓤 H A (shrRefTo (0 ∷ []) tt (plain (λ _. R))) (partAt R t h b o)
-  record-shared t h = record {
-    arg = λ κ δ. record { ptr = (b, o); name = δ; now = h };
-    val = vptr b o;
-    Keep = λ κ δ. flent κ (partAt R t h b o);
-    lend = λ κ. lends-shr 𝓤 H A W R (named 0) κ t h b o;
-  }
-
-  pub record-shared-back : (t : Share) (h : R .Denot) (k : Kept) (κ : Lft) (δ : GName) (w : Unit {0}) → Back 𝓤 H A (shrRefTo (0 ∷ []) tt (plain (λ _. R))) (partAt R t h b o) (record-shared t h) k κ δ w (partAt R t h b o)
-  record-shared-back t h k κ δ w = qed W (‵ (fdead κ) ∷ ‵ (flent κ (partAt R t h b o)) ∷ ‵ ftrue ∷ []) ∵ updating ! $ lent-back ! tt $ at-once ! $ keep ! (0 ∷ []) $ done !
 
 -- the cell of a value and what the value owns are the value in memory
 pub part-shut : {M : Type 1} (𝓤 : URA M) (H : Heap 𝓤) (A : Atoms 𝓤) (W : Given 𝓤 H A) (R : RattleType) (t : Share) (h : R .Denot) (vs : List Val) (b o : ℕ)
