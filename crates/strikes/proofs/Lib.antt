@@ -1,2 +1,3 @@
 pub mod Strikes
+pub mod Corners
 pub mod Unreached

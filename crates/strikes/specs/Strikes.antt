@@ -21,19 +21,21 @@ use Rattle.tables.specs.Effect.{verdict, after}
 
 -- ---- steps, in short
 
-abbrev pub exits : ℕ → Step
-exits w = record { warp = w; op = Exit }
+-- warp w exits
+abbrev pub exitStep : ℕ → Step
+exitStep w = record { warp = w; op = Exit }
 
 -- warp w at barrier k
-abbrev pub at : ℕ → ℕ → BarrierStep → Step
-at w k b = record { warp = w; op = Barrier k b }
+abbrev pub barrierStep : ℕ → ℕ → BarrierStep → Step
+barrierStep w k b = record { warp = w; op = Barrier k b }
 
 -- warp 0 on the object at address 16
-abbrev pub on : ObjectStep → Step
-on o = record { warp = 0; op = Object 16 o }
+abbrev pub objectStep : ObjectStep → Step
+objectStep o = record { warp = 0; op = Object 16 o }
 
-abbrev pub live : ℕ → ℕ → ℤ → ℕ → Bool → row.Object
-live e p t ph s = record { live = true; expected = e; pending = p; tx = t; phase = ph; seen = s }
+-- a live row: expected, pending, transactions, phase, seen
+abbrev pub liveRow : ℕ → ℕ → ℤ → ℕ → Bool → row.Object
+liveRow e p t ph s = record { live = true; expected = e; pending = p; tx = t; phase = ph; seen = s }
 
 -- ---- a strike
 
@@ -45,6 +47,7 @@ pub record Strike : Type 0 where
   pub says : Verdict
   pub leaves : row.Object
 
+-- the tables after all of these steps
 abbrev pub afterAll : Tables → List Step → Tables
 afterAll t [] = t
 afterAll t (s ∷ l) = afterAll (after t s) l
@@ -53,11 +56,13 @@ afterAll t (s ∷ l) = afterAll (after t s) l
 abbrev pub Outcome : Type 0
 Outcome = Verdict × row.Object
 
+-- what comes out
 abbrev pub outcome : Strike → Outcome
 outcome k =
     let t = afterAll (freshTables (k .warps)) (k .before) in
     (verdict t (k .last), getD (after t (k .last) .objects) 2 dead)
 
+-- what the strike says
 abbrev pub expected : Strike → Outcome
 expected k = (k .says, k .leaves)
 
@@ -66,106 +71,106 @@ expected k = (k .says, k .leaves)
 abbrev pub strikes : List Strike
 strikes =
     -- one warp, sync all: done at once, released 1
-    record { warps = 1; before = []; last = at 0 0 barrier.SyncAll; says = Accepted 0 true 1; leaves = dead }
+    record { warps = 1; before = []; last = barrierStep 0 0 barrier.SyncAll; says = Accepted 0 true 1; leaves = dead }
     -- three warps, 0 and 1 sync all, 2 exits: done, released 3
-    ∷ record { warps = 3; before = at 0 0 barrier.SyncAll ∷ at 1 0 barrier.SyncAll ∷ []; last = exits 2; says = Accepted 0 true 3; leaves = dead }
+    ∷ record { warps = 3; before = barrierStep 0 0 barrier.SyncAll ∷ barrierStep 1 0 barrier.SyncAll ∷ []; last = exitStep 2; says = Accepted 0 true 3; leaves = dead }
     -- two warps, popc all on barrier 1, masks 0x0000000F plain and 0xFFFFFFFF complemented: value 4
     ∷ record {
       warps = 2;
-      before = at 0 1 (barrier.RedAll 0 0x0000000F) ∷ [];
-      last = at 1 1 (barrier.RedAll 4 0xFFFFFFFF);
+      before = barrierStep 0 1 (barrier.RedAll 0 0x0000000F) ∷ [];
+      last = barrierStep 1 1 (barrier.RedAll 4 0xFFFFFFFF);
       says = Accepted 4 true 3;
       leaves = dead;
     }
     -- threads 33: 7
-    ∷ record { warps = 2; before = []; last = at 0 0 (barrier.Sync 33); says = Refused 7; leaves = dead }
+    ∷ record { warps = 2; before = []; last = barrierStep 0 0 (barrier.Sync 33); says = Refused 7; leaves = dead }
     -- threads 32: completes with one arrival
-    ∷ record { warps = 2; before = []; last = at 0 0 (barrier.Sync 32); says = Accepted 0 true 1; leaves = dead }
+    ∷ record { warps = 2; before = []; last = barrierStep 0 0 (barrier.Sync 32); says = Accepted 0 true 1; leaves = dead }
     -- two warps, one arrives for 64, then syncs for 64 on the same barrier: 10
-    ∷ record { warps = 2; before = at 0 0 (barrier.Arrive 64) ∷ []; last = at 0 0 (barrier.Sync 64); says = Refused 10; leaves = dead }
+    ∷ record { warps = 2; before = barrierStep 0 0 (barrier.Arrive 64) ∷ []; last = barrierStep 0 0 (barrier.Sync 64); says = Refused 10; leaves = dead }
     -- address 16, init 3, arrive 1: token 2,097,155
-    ∷ record { warps = 1; before = on (object.Init 3) ∷ []; last = on (object.Arrive 1); says = Accepted 2097155 false 0; leaves = live 3 2 (pos 0) 0 true }
+    ∷ record { warps = 1; before = objectStep (object.Init 3) ∷ []; last = objectStep (object.Arrive 1); says = Accepted 2097155 false 0; leaves = liveRow 3 2 (pos 0) 0 true }
     -- three such arrivals, a test saying 1,
     ∷ record {
       warps = 1;
-      before = on (object.Init 3) ∷ on (object.Arrive 1) ∷ on (object.Arrive 1) ∷ on (object.Arrive 1) ∷ [];
-      last = on (object.TestToken 2097155);
+      before = objectStep (object.Init 3) ∷ objectStep (object.Arrive 1) ∷ objectStep (object.Arrive 1) ∷ objectStep (object.Arrive 1) ∷ [];
+      last = objectStep (object.TestToken 2097155);
       says = Accepted 1 false 0;
-      leaves = live 3 3 (pos 0) 1 true;
+      leaves = liveRow 3 3 (pos 0) 1 true;
     }
     -- one more: token 69,206,019
     ∷ record {
       warps = 1;
-      before = on (object.Init 3) ∷ on (object.Arrive 1) ∷ on (object.Arrive 1) ∷ on (object.Arrive 1) ∷ on (object.TestToken 2097155) ∷ [];
-      last = on (object.Arrive 1);
+      before = objectStep (object.Init 3) ∷ objectStep (object.Arrive 1) ∷ objectStep (object.Arrive 1) ∷ objectStep (object.Arrive 1) ∷ objectStep (object.TestToken 2097155) ∷ [];
+      last = objectStep (object.Arrive 1);
       says = Accepted 69206019 false 0;
-      leaves = live 3 2 (pos 0) 1 true;
+      leaves = liveRow 3 2 (pos 0) 1 true;
     }
     -- without the test: 16
     ∷ record {
       warps = 1;
-      before = on (object.Init 3) ∷ on (object.Arrive 1) ∷ on (object.Arrive 1) ∷ on (object.Arrive 1) ∷ [];
-      last = on (object.Arrive 1);
+      before = objectStep (object.Init 3) ∷ objectStep (object.Arrive 1) ∷ objectStep (object.Arrive 1) ∷ objectStep (object.Arrive 1) ∷ [];
+      last = objectStep (object.Arrive 1);
       says = Refused 16;
-      leaves = live 3 3 (pos 0) 1 false;
+      leaves = liveRow 3 3 (pos 0) 1 false;
     }
     -- init 1, complete 64, arrive with expect 64: completes then
     ∷ record {
       warps = 1;
-      before = on (object.Init 1) ∷ on (object.Complete 64) ∷ [];
-      last = on (object.ArriveExpect 64);
+      before = objectStep (object.Init 1) ∷ objectStep (object.Complete 64) ∷ [];
+      last = objectStep (object.ArriveExpect 64);
       says = Accepted 2097153 true 0;
-      leaves = live 1 1 (pos 0) 1 false;
+      leaves = liveRow 1 1 (pos 0) 1 false;
     }
     -- init 1, complete 64, arrive 1: pending 0, transactions -64, phase 0
     ∷ record {
       warps = 1;
-      before = on (object.Init 1) ∷ on (object.Complete 64) ∷ [];
-      last = on (object.Arrive 1);
+      before = objectStep (object.Init 1) ∷ objectStep (object.Complete 64) ∷ [];
+      last = objectStep (object.Arrive 1);
       says = Accepted 2097153 false 0;
-      leaves = live 1 0 (negsuc 63) 0 true;
+      leaves = liveRow 1 0 (negsuc 63) 0 true;
     }
     -- from there expect 64: both 0, phase still 0;
     ∷ record {
       warps = 1;
-      before = on (object.Init 1) ∷ on (object.Complete 64) ∷ on (object.Arrive 1) ∷ [];
-      last = on (object.Expect 64);
+      before = objectStep (object.Init 1) ∷ objectStep (object.Complete 64) ∷ objectStep (object.Arrive 1) ∷ [];
+      last = objectStep (object.Expect 64);
       says = Accepted 0 false 0;
-      leaves = live 1 0 (pos 0) 0 true;
+      leaves = liveRow 1 0 (pos 0) 0 true;
     }
     -- complete 0 ends it
     ∷ record {
       warps = 1;
-      before = on (object.Init 1) ∷ on (object.Complete 64) ∷ on (object.Arrive 1) ∷ on (object.Expect 64) ∷ [];
-      last = on (object.Complete 0);
+      before = objectStep (object.Init 1) ∷ objectStep (object.Complete 64) ∷ objectStep (object.Arrive 1) ∷ objectStep (object.Expect 64) ∷ [];
+      last = objectStep (object.Complete 0);
       says = Accepted 0 true 0;
-      leaves = live 1 1 (pos 0) 1 false;
+      leaves = liveRow 1 1 (pos 0) 1 false;
     }
     -- complete 1,048,575 on 0 accepted;
     ∷ record {
       warps = 1;
-      before = on (object.Init 1) ∷ [];
-      last = on (object.Complete 1048575);
+      before = objectStep (object.Init 1) ∷ [];
+      last = objectStep (object.Complete 1048575);
       says = Accepted 0 false 0;
-      leaves = live 1 1 (negsuc 1048574) 0 true;
+      leaves = liveRow 1 1 (negsuc 1048574) 0 true;
     }
     -- complete 1 more: 15
     ∷ record {
       warps = 1;
-      before = on (object.Init 1) ∷ on (object.Complete 1048575) ∷ [];
-      last = on (object.Complete 1);
+      before = objectStep (object.Init 1) ∷ objectStep (object.Complete 1048575) ∷ [];
+      last = objectStep (object.Complete 1);
       says = Refused 15;
-      leaves = live 1 1 (negsuc 1048574) 0 true;
+      leaves = liveRow 1 1 (negsuc 1048574) 0 true;
     }
     -- init 1, drop 1: 14
-    ∷ record { warps = 1; before = on (object.Init 1) ∷ []; last = on (object.Drop 1); says = Refused 14; leaves = live 1 1 (pos 0) 0 true }
+    ∷ record { warps = 1; before = objectStep (object.Init 1) ∷ []; last = objectStep (object.Drop 1); says = Refused 14; leaves = liveRow 1 1 (pos 0) 0 true }
     -- init 2, drop 1, arrive 1: phase 1, pending 1
     ∷ record {
       warps = 1;
-      before = on (object.Init 2) ∷ on (object.Drop 1) ∷ [];
-      last = on (object.Arrive 1);
+      before = objectStep (object.Init 2) ∷ objectStep (object.Drop 1) ∷ [];
+      last = objectStep (object.Arrive 1);
       says = Accepted 2097153 true 0;
-      leaves = live 1 1 (pos 0) 1 false;
+      leaves = liveRow 1 1 (pos 0) 1 false;
     }
     ∷ []
 

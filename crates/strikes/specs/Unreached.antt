@@ -23,7 +23,7 @@ use Rattle.block.specs.declared.Verdict.the-variants.{Refused, Accepted}
 use Rattle.block.specs.Tables.{mostWarps, barrierCount, freshWarp, idle, warpAt, barrierAt, liveOf, warpsCounted, spareFresh, setsInside, waitsPlaced, agreeing, waitingArrived, idleZero, activeArrived, activeCount, countOpen, allOpen, reductionWaits, plainNone}
 use Rattle.tables.specs.Tables.{Tables, tallied}
 use Rattle.tables.specs.Effect.{verdict}
-use Rattle.strikes.specs.Strikes.{exits, on, live}
+use Rattle.strikes.specs.Strikes.{exitStep, objectStep, liveRow}
 
 -- ---- the clauses of soundness, in 01's order
 
@@ -131,34 +131,34 @@ broken =
     -- dead object rows are zero
     ∷ record { clause = 14; tables = tables 1 freshWarp freshWarp idle (record { live = false; expected = 0; pending = 0; tx = pos 0; phase = 1; seen = false }) }
     -- live ones have expected 1 to 1,048,575
-    ∷ record { clause = 15; tables = tables 1 freshWarp freshWarp idle (live 0 0 (pos 0) 0 true) }
-    ∷ record { clause = 15; tables = tables 1 freshWarp freshWarp idle (live 1048576 1 (pos 0) 0 true) }
+    ∷ record { clause = 15; tables = tables 1 freshWarp freshWarp idle (liveRow 0 0 (pos 0) 0 true) }
+    ∷ record { clause = 15; tables = tables 1 freshWarp freshWarp idle (liveRow 1048576 1 (pos 0) 0 true) }
     -- pending 0 to expected
-    ∷ record { clause = 16; tables = tables 1 freshWarp freshWarp idle (live 1 2 (pos 0) 0 true) }
+    ∷ record { clause = 16; tables = tables 1 freshWarp freshWarp idle (liveRow 1 2 (pos 0) 0 true) }
     -- transaction count from -1,048,575 to 1,048,575
-    ∷ record { clause = 17; tables = tables 1 freshWarp freshWarp idle (live 1 1 (pos 1048576) 0 true) }
+    ∷ record { clause = 17; tables = tables 1 freshWarp freshWarp idle (liveRow 1 1 (pos 1048576) 0 true) }
     -- phase 0 to 4,294,967,295
-    ∷ record { clause = 18; tables = tables 1 freshWarp freshWarp idle (live 1 1 (pos 0) 4294967296 true) }
+    ∷ record { clause = 18; tables = tables 1 freshWarp freshWarp idle (liveRow 1 1 (pos 0) 4294967296 true) }
     -- and in phase 0 the seen mark set
-    ∷ record { clause = 19; tables = tables 1 freshWarp freshWarp idle (live 1 1 (pos 0) 0 false) }
+    ∷ record { clause = 19; tables = tables 1 freshWarp freshWarp idle (liveRow 1 1 (pos 0) 0 false) }
     ∷ []
 
 -- every clause but that one holds, and the answer to an exit of warp 0 is 3, the lowest also where 4 or 5 holds
 abbrev pub AllBroken : Type 0
 AllBroken =
-    map {B = List Bool × Verdict} (λ b. (clauses (b .tables), verdict (b .tables) (exits 0))) broken
+    map {B = List Bool × Verdict} (λ b. (clauses (b .tables), verdict (b .tables) (exitStep 0))) broken
     ≡ map {B = List Bool × Verdict} (λ b. (set (replicate 20 true) (b .clause) false, Refused 3)) broken
 
 -- ---- the last phase, and the largest tallies
 
 -- in the last phase, with one arrival pending: an arrive, a noComplete arrive; with none pending, a complete of 0; an arrive that leaves one pending
 abbrev pub last : ℕ → Tables
-last p = tables 1 freshWarp freshWarp idle (live 3 p (pos 0) lastPhase true)
+last p = tables 1 freshWarp freshWarp idle (liveRow 3 p (pos 0) lastPhase true)
 
 abbrev pub LastPhase : Type 0
 LastPhase =
-    verdict (last 1) (on (object.Arrive 1)) ∷ verdict (last 1) (on (object.ArriveNoComplete 1)) ∷ verdict (last 0) (on (object.Complete 0))
-    ∷ verdict (last 2) (on (object.Arrive 1)) ∷ []
+    verdict (last 1) (objectStep (object.Arrive 1)) ∷ verdict (last 1) (objectStep (object.ArriveNoComplete 1)) ∷ verdict (last 0) (objectStep (object.Complete 0))
+    ∷ verdict (last 2) (objectStep (object.Arrive 1)) ∷ []
     ≡ Refused 18 ∷ Refused 17 ∷ Refused 18 ∷ Accepted 288230376086700034 false 0 ∷ []
 
 abbrev pub LargestTally : Type 0
