@@ -68,64 +68,64 @@ pub record Needed (k : ℕ) (t : Tables) (a : ℕ) (l : List Step) (vs : List Ve
 
 -- ---- the cases
 
--- a live row
-abbrev pub row : ℕ → ℕ → ℤ → ℕ → Bool → Object
-row e p z ph s = record { live = true; expected = e; pending = p; tx = z; phase = ph; seen = s }
+-- a live row: expected, pending, transactions, phase, seen
+abbrev pub liveRow : ℕ → ℕ → ℤ → ℕ → Bool → Object
+liveRow e p z ph s = record { live = true; expected = e; pending = p; tx = z; phase = ph; seen = s }
 
 -- two warps, and the row of the object at 16
 abbrev pub tablesOf : Object → Tables
 tablesOf o = withRow (freshTables 2) 16 o
 
 -- a step of warp 0 on it
-abbrev pub step : ObjectStep → Step
-step o = stepOn 0 16 o
+abbrev pub objectStep : ObjectStep → Step
+objectStep o = stepOn 0 16 o
 
 -- one arrival is expected and pending in phase 0
 abbrev pub single : Tables
-single = tablesOf (row 1 1 (pos 0) 0 true)
+single = tablesOf (liveRow 1 1 (pos 0) 0 true)
 
 -- one case or more for each condition but two, which follow from others
 pub record Tight : Type 0 where
   -- 0: another row isn't sound, dead with a pending arrival
   pub sound : Needed 0 (withRow single 24 (record { live = false; expected = 0; pending = 1; tx = pos 0; phase = 0; seen = false })) 16
-      (step (Arrive 1) ∷ []) (Refused 3 ∷ [])
+      (objectStep (Arrive 1) ∷ []) (Refused 3 ∷ [])
   -- 1: the address is no multiple of 8
-  pub multiple : Needed 1 (withRow (freshTables 2) 12 (row 1 1 (pos 0) 0 true)) 12 (stepOn 0 12 (Arrive 1) ∷ []) (Refused 11 ∷ [])
+  pub multiple : Needed 1 (withRow (freshTables 2) 12 (liveRow 1 1 (pos 0) 0 true)) 12 (stepOn 0 12 (Arrive 1) ∷ []) (Refused 11 ∷ [])
   -- 2: no case, since in sound tables no object is live above 504 (WithinFollows)
   -- 3: no case, since in sound tables an object with arrivals pending is live (LiveFollows)
   -- 4: no arrival is pending, and no step is left (where one is left, nothing fails: PendingSpared)
-  pub pending : Needed 4 (tablesOf (row 1 0 (pos 0) 0 true)) 16 [] []
+  pub pending : Needed 4 (tablesOf (liveRow 1 0 (pos 0) 0 true)) 16 [] []
   -- 5: the previous phase is unseen
-  pub seen : Needed 5 (tablesOf (row 1 1 (pos 0) 1 false)) 16 (step (Arrive 1) ∷ []) (Refused 16 ∷ [])
+  pub seen : Needed 5 (tablesOf (liveRow 1 1 (pos 0) 1 false)) 16 (objectStep (Arrive 1) ∷ []) (Refused 16 ∷ [])
   -- 6: the last phase
-  pub phase : Needed 6 (tablesOf (row 1 1 (pos 0) lastPhase true)) 16 (step (Arrive 1) ∷ []) (Refused 18 ∷ [])
+  pub phase : Needed 6 (tablesOf (liveRow 1 1 (pos 0) lastPhase true)) 16 (objectStep (Arrive 1) ∷ []) (Refused 18 ∷ [])
   -- 7: a step on another object
-  pub on : Needed 7 (withRow (tablesOf (row 2 2 (pos 0) 0 true)) 24 (row 2 2 (pos 0) 0 true)) 16
-      (step (Arrive 1) ∷ stepOn 0 24 (Arrive 1) ∷ []) (Accepted 2097154 false 0 ∷ Accepted 3145730 false 0 ∷ [])
+  pub on : Needed 7 (withRow (tablesOf (liveRow 2 2 (pos 0) 0 true)) 24 (liveRow 2 2 (pos 0) 0 true)) 16
+      (objectStep (Arrive 1) ∷ stepOn 0 24 (Arrive 1) ∷ []) (Accepted 2097154 false 0 ∷ Accepted 3145730 false 0 ∷ [])
   -- 8: a noComplete step; an expectation alone, which completes no phase
-  pub noComplete : Needed 8 single 16 (step (ArriveNoComplete 1) ∷ []) (Refused 17 ∷ [])
-  pub expectAlone : Needed 8 single 16 (step (Complete 64) ∷ step (Arrive 1) ∷ step (Expect 64) ∷ [])
+  pub noComplete : Needed 8 single 16 (objectStep (ArriveNoComplete 1) ∷ []) (Refused 17 ∷ [])
+  pub expectAlone : Needed 8 single 16 (objectStep (Complete 64) ∷ objectStep (Arrive 1) ∷ objectStep (Expect 64) ∷ [])
       (Accepted 0 false 0 ∷ Accepted 2097153 false 0 ∷ Accepted 0 false 0 ∷ [])
   -- 9: an arrival, a drop of 0; a completion of 0, after which the phase has completed before the last step
-  pub zeroArrival : Needed 9 single 16 (step (Arrive 0) ∷ step (Arrive 1) ∷ []) (Refused 14 ∷ Accepted 2097153 true 0 ∷ [])
-  pub zeroDrop : Needed 9 single 16 (step (Drop 0) ∷ step (Arrive 1) ∷ []) (Refused 14 ∷ Accepted 2097153 true 0 ∷ [])
-  pub zeroCompletion : Needed 9 single 16 (step (Arrive 1) ∷ step (Complete 0) ∷ []) (Accepted 2097153 true 0 ∷ Accepted 0 false 0 ∷ [])
+  pub zeroArrival : Needed 9 single 16 (objectStep (Arrive 0) ∷ objectStep (Arrive 1) ∷ []) (Refused 14 ∷ Accepted 2097153 true 0 ∷ [])
+  pub zeroDrop : Needed 9 single 16 (objectStep (Drop 0) ∷ objectStep (Arrive 1) ∷ []) (Refused 14 ∷ Accepted 2097153 true 0 ∷ [])
+  pub zeroCompletion : Needed 9 single 16 (objectStep (Arrive 1) ∷ objectStep (Complete 0) ∷ []) (Accepted 2097153 true 0 ∷ Accepted 0 false 0 ∷ [])
   -- 10: a warp that isn't in the block; one that has exited
   pub noSuchWarp : Needed 10 single 16 (stepOn 2 16 (Arrive 1) ∷ []) (Refused 4 ∷ [])
   pub notReady : Needed 10 (record { block = without (freshBlock 2) 1; objects = single .objects }) 16 (stepOn 1 16 (Arrive 1) ∷ []) (Refused 5 ∷ [])
   -- 11: fewer counts than are pending; more
-  pub fewerCounts : Needed 11 (tablesOf (row 2 2 (pos 0) 0 true)) 16 (step (Arrive 1) ∷ []) (Accepted 2097154 false 0 ∷ [])
-  pub moreCounts : Needed 11 single 16 (step (Arrive 1) ∷ step (Arrive 1) ∷ []) (Accepted 2097153 true 0 ∷ Refused 16 ∷ [])
+  pub fewerCounts : Needed 11 (tablesOf (liveRow 2 2 (pos 0) 0 true)) 16 (objectStep (Arrive 1) ∷ []) (Accepted 2097154 false 0 ∷ [])
+  pub moreCounts : Needed 11 single 16 (objectStep (Arrive 1) ∷ objectStep (Arrive 1) ∷ []) (Accepted 2097153 true 0 ∷ Refused 16 ∷ [])
   -- 12: more completions than transactions and expectations; fewer
-  pub moreCompletions : Needed 12 single 16 (step (Arrive 1) ∷ step (Complete 5) ∷ []) (Accepted 2097153 true 0 ∷ Accepted 0 false 0 ∷ [])
-  pub fewerCompletions : Needed 12 single 16 (step (ArriveExpect 5) ∷ []) (Accepted 2097153 false 0 ∷ [])
+  pub moreCompletions : Needed 12 single 16 (objectStep (Arrive 1) ∷ objectStep (Complete 5) ∷ []) (Accepted 2097153 true 0 ∷ Accepted 0 false 0 ∷ [])
+  pub fewerCompletions : Needed 12 single 16 (objectStep (ArriveExpect 5) ∷ []) (Accepted 2097153 false 0 ∷ [])
   -- 13: as many drops as are expected
-  pub drops : Needed 13 (tablesOf (row 2 2 (pos 0) 0 true)) 16 (step (Drop 1) ∷ step (Drop 1) ∷ []) (Accepted 2097154 false 0 ∷ Refused 14 ∷ [])
+  pub drops : Needed 13 (tablesOf (liveRow 2 2 (pos 0) 0 true)) 16 (objectStep (Drop 1) ∷ objectStep (Drop 1) ∷ []) (Accepted 2097154 false 0 ∷ Refused 14 ∷ [])
   -- 14: expectations of 1,048,576, with the transaction count at -1
-  pub expectations : Needed 14 (tablesOf (row 1 1 (negsuc 0) 0 true)) 16 (step (Complete 1048575) ∷ step (ArriveExpect 1048576) ∷ [])
+  pub expectations : Needed 14 (tablesOf (liveRow 1 1 (negsuc 0) 0 true)) 16 (objectStep (Complete 1048575) ∷ objectStep (ArriveExpect 1048576) ∷ [])
       (Refused 15 ∷ Accepted 2097153 false 0 ∷ [])
   -- 15: completions of 1,048,576, with the transaction count at 1
-  pub completions : Needed 15 (tablesOf (row 1 1 (pos 1) 0 true)) 16 (step (ArriveExpect 1048575) ∷ step (Complete 1048576) ∷ [])
+  pub completions : Needed 15 (tablesOf (liveRow 1 1 (pos 1) 0 true)) 16 (objectStep (ArriveExpect 1048575) ∷ objectStep (Complete 1048576) ∷ [])
       (Refused 15 ∷ Accepted 0 false 0 ∷ [])
 
 -- ---- what follows from the others
