@@ -1,4 +1,4 @@
-"""Tests of tools/trace: python3 tests/trace_test.py"""
+"""Tests of tools/trace and of the traces that are kept: python3 tests/trace_test.py"""
 import importlib.machinery
 import importlib.util
 import pathlib
@@ -227,16 +227,28 @@ class CommandLine(unittest.TestCase):
             self.assertIn(b"trace", made.stderr)
 
 
-class Examples(unittest.TestCase):
-    def test_texts_and_bytes_agree(self):
+class Kept(unittest.TestCase):
+    def kept(self, pattern):
         folders = [ROOT / "examples", ROOT / "tests" / "traces"]
-        texts = sorted(text for folder in folders for text in folder.glob("*.trace.txt"))
-        self.assertTrue(texts)
-        for text in texts:
+        files = sorted(file for folder in folders for file in folder.glob(pattern))
+        self.assertTrue(files)
+        return files
+
+    def test_texts_and_bytes_agree(self):
+        for text in self.kept("*.trace.txt"):
             with self.subTest(text=text.name):
                 made = run("asm", text)
                 self.assertEqual((made.returncode, made.stderr), (0, b""))
                 self.assertEqual(made.stdout, text.with_suffix("").read_bytes())
+
+    def test_the_program_is_run_on_each(self):
+        crate = ROOT / "crates" / "glubotar"
+        output = (crate / "stdout").read_text()
+        for trace_file in self.kept("*.trace"):
+            with self.subTest(trace=trace_file.name):
+                self.assertEqual((crate / "data" / trace_file.name).read_bytes(), trace_file.read_bytes())
+                answer = trace_file.with_suffix(".expected").read_text()
+                self.assertIn(f"file {trace_file.name}\n{answer}", output)
 
 
 if __name__ == "__main__":
