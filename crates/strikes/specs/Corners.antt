@@ -15,7 +15,7 @@ use Rattle.block.specs.declared.Verdict.{Verdict}
 use Rattle.block.specs.declared.Verdict.the-variants.{Refused, Accepted}
 use Rattle.strikes.specs.Strikes.{barrierStep, objectStep, liveRow, Strike, outcome, expected}
 
--- ---- two shapes of a corner
+-- ---- corners, in short
 
 -- two warps, 0 and then 1, reduce over all threads on barrier 0, each with a selector and a mask: what warp 1 is answered
 abbrev pub reduced : ℕ → ℕ → ℕ → ℕ → Verdict → Strike
@@ -27,7 +27,7 @@ reduced s0 m0 s1 m1 v = record {
   leaves = dead;
 }
 
--- one warp, whose first step makes the object at address 16 expect so many arrivals
+-- one warp makes the object at address 16 expect n arrivals, and takes the steps l: what it is answered to s, and the row then
 abbrev pub alone : ℕ → List Step → Step → Verdict → Object → Strike
 alone n l s v o = record { warps = 1; before = objectStep (object.Init n) ∷ l; last = s; says = v; leaves = o }
 
@@ -41,6 +41,7 @@ twoPhases = objectStep (object.Arrive 1) ∷ objectStep (object.TestParity 0) �
 
 -- ---- the table
 
+-- each corner, most beside the case that it has to be told from
 abbrev pub corners : List Strike
 corners =
     -- "1 or 0 for all true", and: 64 lanes true, 1; one of them false, 0

@@ -68,6 +68,7 @@ expected k = (k .says, k .leaves)
 
 -- ---- the table
 
+-- each strike, in the order of the document
 abbrev pub strikes : List Strike
 strikes =
     -- one warp, sync all: done at once, released 1
