@@ -1,4 +1,4 @@
-// Little-endian numbers in a slice: one reader for every width up to 8.
+// Little-endian numbers in a slice: one reader for every width up to 8, and the four widths that steps have, each in the type that just holds it.
 ghost use mathlib.Core.Path.{_≡_};
 ghost use Prim.Native.Nat.{_≤_, _<_};
 ghost use lib.ListN.{drop, getD};
@@ -37,4 +37,32 @@ pub fn number(s: &[u8], at: usize, width: usize) -> u64
         return number_in(&s[at..], 8);
     }
     number_in(&s[at..], width)
+}
+
+// The number in one byte.
+pub fn one(s: &[u8], at: usize) -> u8
+    ensures { λ r. ⌜ r ≡ num 1 (drop at (now (s .entry))) ⌝ }
+{
+    number(s, at, 1) as u8
+}
+
+// The number in two bytes.
+pub fn two(s: &[u8], at: usize) -> u16
+    ensures { λ r. ⌜ r ≡ num 2 (drop at (now (s .entry))) ⌝ }
+{
+    number(s, at, 2) as u16
+}
+
+// The number in four bytes.
+pub fn four(s: &[u8], at: usize) -> u32
+    ensures { λ r. ⌜ r ≡ num 4 (drop at (now (s .entry))) ⌝ }
+{
+    number(s, at, 4) as u32
+}
+
+// The number in eight bytes.
+pub fn eight(s: &[u8], at: usize) -> u64
+    ensures { λ r. ⌜ r ≡ num 8 (drop at (now (s .entry))) ⌝ }
+{
+    number(s, at, 8)
 }

@@ -80,16 +80,16 @@ fn barrier_step(kind: u8, s: &[u8], at: usize) -> BarrierStep
 {
     match kind {
         2 => BarrierStep::SyncAll,
-        3 => BarrierStep::Sync(widths::two(s, at)),
-        4 => BarrierStep::Arrive(widths::two(s, at)),
+        3 => BarrierStep::Sync(fields::two(s, at)),
+        4 => BarrierStep::Arrive(fields::two(s, at)),
         5 => BarrierStep::RedAll {
-            selector: widths::one(s, at),
-            mask: widths::four(s, at + 1),
+            selector: fields::one(s, at),
+            mask: fields::four(s, at + 1),
         },
         _ => BarrierStep::Red {
-            selector: widths::one(s, at),
-            threads: widths::two(s, at + 1),
-            mask: widths::four(s, at + 3),
+            selector: fields::one(s, at),
+            threads: fields::two(s, at + 1),
+            mask: fields::four(s, at + 3),
         },
     }
 }
@@ -119,9 +119,9 @@ fn object_step(kind: u8, s: &[u8], at: usize) -> ObjectStep
 {
     match kind {
         8 => ObjectStep::Inval,
-        16 => ObjectStep::TestToken(widths::eight(s, at)),
-        17 => ObjectStep::TestParity(widths::one(s, at)),
-        _ => counted(kind, widths::four(s, at)),
+        16 => ObjectStep::TestToken(fields::eight(s, at)),
+        17 => ObjectStep::TestParity(fields::one(s, at)),
+        _ => counted(kind, fields::four(s, at)),
     }
 }
 
@@ -134,12 +134,12 @@ fn op_at(kind: u8, s: &[u8], at: usize) -> Op
         return Op::Exit;
     }
     if kind <= 6 {
-        return Op::Barrier(widths::one(s, at), barrier_step(kind, s, at + 1));
+        return Op::Barrier(fields::one(s, at), barrier_step(kind, s, at + 1));
     }
     if kind == 18 {
-        return Op::PendingCount(widths::eight(s, at));
+        return Op::PendingCount(fields::eight(s, at));
     }
-    Op::Object(widths::two(s, at), object_step(kind, s, at + 2))
+    Op::Object(fields::two(s, at), object_step(kind, s, at + 2))
 }
 
 // The step of a known kind whose body starts at at.
@@ -148,7 +148,7 @@ fn step_at(kind: u8, s: &[u8], at: usize) -> Step
     ensures { λ r. ⌜ r ≡ stepOf kind (decode (row kind) (drop at (now (s .entry)))) ⌝ }
 {
     Step {
-        warp: widths::one(s, at),
+        warp: fields::one(s, at),
         op: op_at(kind, s, at + 1),
     }
 }
