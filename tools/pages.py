@@ -24,6 +24,7 @@ FOREIGN = {
     "PTX": {"and", "atom", "barrier", "exit", "or", "popc", "vote"},
     "traces of bench": {"barriers", "held", "mixed", "objects"},
     "rt's folders": {"must-fail"},
+    "the kit's logic and tools": {"Is", "cc", "look-raw", "mir", "owed", "peeks", "places", "rw"},
 }
 FOREIGN_WORDS = set().union(*FOREIGN.values())
 
