@@ -11,8 +11,23 @@ ghost use Prim.Native.Nat.{_+_, _<_};
 ghost use lib.ListN.{getD};
 ghost use Rattle.fields.specs.Num.{laid};
 ghost use Rattle.lines.specs.Lines.{mostLine, lineOf};
-ghost use Rattle.printed.specs.Text.{traceRefusal};
+ghost use Rattle.printed.specs.Text.{traceRefusal, numberIn};
 ghost use Rattle.laying.specs.Buffer.{lineLaid, Begun, LastLaid, Lays};
+
+// The number of a line stops at 4,294,967,295.
+const LAST_NUMBER: u64 = 4294967295;
+
+// The number of the next line, after so many accepted and refused.
+fn number_in(lines: Tally) -> u64
+    ensures { λ r. ⌜ r ≡ numberIn lines ⌝ }
+{
+    let number = (lines.accepted as u64) + (lines.refused as u64) + 1;
+    if number < LAST_NUMBER {
+        number
+    } else {
+        LAST_NUMBER
+    }
+}
 
 // The line of a verdict under its number, laid where it fits.
 fn lay_line(out: &mut [u8], l: Laying, number: u64, v: Verdict) -> Laying
@@ -24,7 +39,7 @@ fn lay_line(out: &mut [u8], l: Laying, number: u64, v: Verdict) -> Laying
     let step = l.step;
     Laying {
         going: l.going,
-        refusal: l.refusal,
+        stop: l.stop,
         at: at + lines::put_line(&mut *out, at, number, v),
         cursor,
         step,
@@ -36,9 +51,9 @@ fn lay_last(out: &mut [u8], l: Laying, lines: Tally) -> usize
     requires { ⌜ l .at + (mostLine + mostLine) < 18446744073709551616 ⌝ }
     ensures { λ r. ⌜ LastLaid (now (out .entry)) l lines r (now (out .exit)) ⌝ }
 {
-    if l.refusal != 0 {
-        let stop = Verdict::Refused(l.refusal);
-        let at = l.at + lines::put_line(&mut *out, l.at, runs::number_in(lines), stop);
+    if l.stop != 0 {
+        let stop = Verdict::Refused(l.stop);
+        let at = l.at + lines::put_line(&mut *out, l.at, number_in(lines), stop);
         let all = tables::add(lines, stop);
         return at + lines::put_end(&mut *out, at, all.accepted, all.refused);
     }
@@ -63,7 +78,7 @@ fn lay_turns(
         if !l.going {
             break;
         }
-        let number = runs::number_in(tally);
+        let number = number_in(tally);
         let gone = lent_run::go_on(&mut block, &mut objects, &mut tally, checked, l.step);
         checked = gone.checked;
         let laid = lay_line(&mut *out, l, number, gone.verdict);

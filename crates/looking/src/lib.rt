@@ -1,4 +1,5 @@
 // A trace as it is gone through: why it is refused before its steps, and what stands at a place in it.
+use block::MOST_WARPS;
 use steps::Cursor;
 use steps::Op;
 use steps::Read;
@@ -10,13 +11,10 @@ ghost use Rattle.looking.specs.Places.{firstPlace, looked};
 // A trace has at most 65,536 bytes.
 pub const MOST_BYTES: usize = 65536;
 
-// A block has at most 32 warps.
-const MOST_WARPS: u8 = 32;
-
-// A text that is being laid: whether a step was found at the run's place, and which; the 1 or 2 that was found instead, else 0; the place after what is laid; the place of the next step.
+// A text that is being laid: whether a step was found at the run's place, else why the run stops there, 1, 2 or 0 where no byte is left; the place after what is laid; the place of the next step; the step that was found.
 pub struct Laying {
     pub going: bool,
-    pub refusal: u8,
+    pub stop: u8,
     pub at: usize,
     pub cursor: Cursor,
     pub step: Step,
@@ -45,7 +43,7 @@ pub fn first_place() -> Laying
 {
     Laying {
         going: true,
-        refusal: 0,
+        stop: 0,
         at: 0,
         cursor: Cursor { at: 1 },
         step: Step {
@@ -65,7 +63,7 @@ pub fn look(trace: &[u8], l: Laying) -> Laying
     if trace.len() <= cursor.at {
         return Laying {
             going: false,
-            refusal: 0,
+            stop: 0,
             at,
             cursor,
             step,
@@ -74,14 +72,14 @@ pub fn look(trace: &[u8], l: Laying) -> Laying
     match cursor.read(trace) {
         Read::Found(found, next) => Laying {
             going: true,
-            refusal: 0,
+            stop: 0,
             at,
             cursor: next,
             step: found,
         },
         Read::Refused(n) => Laying {
             going: false,
-            refusal: n,
+            stop: n,
             at,
             cursor,
             step,

@@ -4,18 +4,12 @@ use mathlib.Core.Path.{_≡_}
 use mathlib.Core.List.{List, [], _∷_}
 use Prim.Native.Nat.{ℕ, _≤_}
 use lib.ListN.{length, getD}
-use Rattle.tables.specs.Tables.{freshTables}
-use Rattle.printed.specs.Text.{answersFrom, answers, traceRefusal, textLines, textOf, roomFor}
-use Rattle.runs.specs.Runs.{startOf}
-use Rattle.printed.specs.Turns.{linesFrom}
+use Rattle.printed.specs.Run.{runFrom, freshState, runOf}
+use Rattle.printed.specs.Text.{textOf, roomFor}
 
 -- as many steps as there are bytes are enough: more that may be read change nothing
 abbrev pub MoreChangesNothing : Type 0
-MoreChangesNothing = (s : List ℕ) (most : ℕ) → length s ≤ most → answersFrom most s (freshTables (getD s 0 0)) 1 ≡ answers s
-
--- the lines of a trace that is not refused before its steps are what turn after turn gives from the start on
-abbrev pub TurnByTurn : Type 0
-TurnByTurn = (s : List ℕ) (most : ℕ) → traceRefusal s ≡ 0 → length s ≤ most → linesFrom most s (startOf (getD s 0 0)) ≡ textLines s
+MoreChangesNothing = (s : List ℕ) (most : ℕ) → length s ≤ most → runFrom most s (freshState (getD s 0 0)) 1 ≡ runOf s
 
 -- the room for a trace of some length is enough for its text
 abbrev pub RoomIsEnough : Type 0

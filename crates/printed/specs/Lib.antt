@@ -1,4 +1,4 @@
+pub mod Run
 pub mod Text
 pub mod Buffer
-pub mod Turns
 pub mod Laws

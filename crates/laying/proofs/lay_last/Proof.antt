@@ -27,7 +27,7 @@ start p = p .before .before .before .before .before .before
 line-fits : (p : tie.After-put-line) → start p .args .l .at + p .put-line .result + 56 < 18446744073709551616
 line-fits p =
     let s = start p in
-    omega (arith, p .put-line .ensures .0, line-most (p .before .number-in .result) (Refused (s .args .l .refusal)), s .pre)
+    omega (arith, p .put-line .ensures .0, line-most (p .before .number-in .result) (Refused (s .args .l .stop)), s .pre)
 
 add-at : tie.Need-add-at
 add-at c = omega (arith, line-fits (c .before .before .before))
@@ -60,12 +60,12 @@ returns c =
     (a .lines)
     (p .before .before .before .if1 .taken)
     _
-    (ap (λ (k : ℕ). a .l .at + k) (p .put-line .ensures .0 ∙ ap (λ (k : ℕ). length (lineOf k (Refused (a .l .refusal)))) n))
+    (ap (λ (k : ℕ). a .l .at + k) (p .put-line .ensures .0 ∙ ap (λ (k : ℕ). length (lineOf k (Refused (a .l .stop)))) n))
     (t .add .result)
     (t .add .ensures)
     (p .put-line .last .0)
     (e .put-end .last .0)
-    (p .put-line .ensures .1 ∙ ap (λ (k : ℕ). laid (now (a .out)) (a .l .at) (lineOf k (Refused (a .l .refusal)))) n)
+    (p .put-line .ensures .1 ∙ ap (λ (k : ℕ). laid (now (a .out)) (a .l .at) (lineOf k (Refused (a .l .stop)))) n)
     (e .put-end .result)
     (e .put-end .ensures .0)
     (e .put-end .ensures .1)

@@ -23,7 +23,7 @@ returns : tie.Need-returns
 returns c =
     let p = c .before .before in
     let a = p .before .before .before .before .before .args in (
-      λ i. record { going = a .l .going; refusal = a .l .refusal; at = a .l .at + p .put-line .ensures .0 i; cursor = a .l .cursor; step = a .l .step },
+      λ i. record { going = a .l .going; stop = a .l .stop; at = a .l .at + p .put-line .ensures .0 i; cursor = a .l .cursor; step = a .l .step },
       p .put-line .ensures .1,
     )
 

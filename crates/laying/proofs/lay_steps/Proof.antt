@@ -4,14 +4,17 @@ use mathlib.Core.Path.{ap, _∙_, sym, subst}
 use Prim.Native.Nat.{ℕ}
 use borrow.Author.Needs.{needs}
 use denote.Ref.{now}
+use lib.ListN.{getD}
 use Rattle.tables.specs.Tables.{freshTables}
+use Rattle.tables.specs.Effect.{State}
 use Rattle.owned.specs.declared.OwnedTurn.{OwnedTurn}
-use Rattle.owned.specs.Owner.{ownedFresh}
-use Rattle.lent.specs.Entries.{tablesOf}
+use Rattle.owned.specs.Owner.{stateIn, ownedFresh}
+use Rattle.lent_run.specs.declared.Checked.{Checked}
 use Rattle.lent_run.specs.Run.{checkedOf}
 use Rattle.lent_run.specs.Laws.{Fits}
+use Rattle.lent_run.proofs.Laws.{check-fits}
 use Rattle.looking.specs.declared.Laying.{Laying}
-use Rattle.laying.proofs.Buffer.{start-fits}
+use Rattle.laying.proofs.Buffer.{owns-fresh}
 use Rattle.laying.proofs.lay_steps.Statement.{statement}
 use Rattle.laying.proofs.lay_steps.Tie as tie
 
@@ -32,14 +35,16 @@ lay-turns-requires c κs =
     let s = now (begin .args .trace) in
     let same = begin .pre .1 in
     let state = f .fresh-owned .ensures ∙ ap ownedFresh same in
+    let fresh = ap (λ (t : OwnedTurn). stateIn (t .state)) state ∙ owns-fresh s (begin .pre .0) in
     let first = c .first-place .ensures in
     record {
       unrefused = begin .pre .0;
-      start = λ i. record { state = state i .state; cursor = first i .cursor; lines = state i .state .tally };
+      fresh = fresh;
+      first = ap (λ (l : Laying). l .cursor .at) first;
       place = ap (λ (l : Laying). l .at) first;
       fits =
-          subst (λ (t : OwnedTurn). Fits (k .fresh-checked .result) (tablesOf (t .state .block) (t .state .objects))) (sym state)
-          (start-fits s (begin .pre .0) (k .fresh-checked .result) (k .fresh-checked .ensures ∙ ap (λ (w : ℕ). checkedOf (freshTables w)) same));
+          subst (λ (x : State). Fits (k .fresh-checked .result) (x .tables)) (sym fresh)
+          (subst (λ (known : Checked). Fits known (freshTables (getD s 0 0))) (sym (k .fresh-checked .ensures ∙ ap (λ (w : ℕ). checkedOf (freshTables w)) same)) (check-fits (freshTables (getD s 0 0))));
     }
 
 same-length : tie.Need-same-length

@@ -1,18 +1,15 @@
 -- `laying::lay_text` meets its contract: a trace refused before its steps has two lines, and any other is laid step by step.
 -- Assumes nothing.
 use mathlib.Core.Path.{_≡_, sym, ap, _∙_}
-use mathlib.Core.List.{[], _++_}
 use Prim.Native.Nat.{_+_}
 use native.Mathlib.Omega.{arith}
 use borrow.Author.Needs.{needs}
 use denote.Ref.{now}
-use lib.ListN.{length-append}
 use Rattle.block.specs.declared.Verdict.the-variants.{Refused}
 use Rattle.lines.specs.Lines.{lineOf, endOf}
 use Rattle.printed.specs.Text.{refusedLines, textLines, textOf}
 use Rattle.laying.specs.Buffer.{Lays}
-use Rattle.printed.proofs.Text.{lines-refused}
-use Rattle.printed.proofs.Turns.{begins}
+use Rattle.printed.proofs.Text.{begins, lines-refused, two-joined}
 use Rattle.laying.proofs.Buffer.{text-small, two-laid}
 use Rattle.laying.proofs.lay_text.Statement.{statement}
 use Rattle.laying.proofs.lay_text.Tie as tie
@@ -33,7 +30,7 @@ two-lines p =
     lines-refused (now (a .trace)) (λ z. q .before .before .if1 .taken (t .trace-refusal .ensures ∙ z))
     ∙ ap refusedLines (sym (t .trace-refusal .ensures)) in
     record {
-      size = rw is (omega (arith, q .put-line .ensures .0, p .put-end .ensures .0, length-append (lineOf 0 (Refused n)) (endOf 0 1 ++ []), length-append (endOf 0 1) []));
+      size = rw is (omega (arith, q .put-line .ensures .0, p .put-end .ensures .0, two-joined (lineOf 0 (Refused n)) (endOf 0 1)));
       bytes = rw is (two-laid (now (a .out)) (q .put-line .last .0) (p .put-end .last .0) (lineOf 0 (Refused n)) (endOf 0 1) (q .put-line .result) (q .put-line .ensures .0) (q .put-line .ensures .1) (p .put-end .ensures .1));
     }
 

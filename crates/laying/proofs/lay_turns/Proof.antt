@@ -6,6 +6,7 @@ use mathlib.Core.Option.{some as there}
 use mathlib.Core.WellFounded.{WellFounded, InvImage·wf}
 use Prim.Native.Nat.{ℕ, _+_, _-_, _<_}
 use mathlib.Core.List.{List, [], _∷_}
+use native.Mathlib.Omega.{arith}
 use lib.ListN.{length, length-map}
 use lib.Dec.{T as Tr, lit<}
 use lib.WfN.{Nat·lt-wfRel}
@@ -84,15 +85,15 @@ use Rattle.lent_run.proofs.go_on.Symbol as go-on-def
 use Rattle.lent_run.proofs.go_on.Symbol.{name as #lent-run·go-on}
 use Rattle.lent_run.proofs.go_on.Met as go-on-thm
 use Rattle.lines.specs.Lines.{lineOf}
-use Rattle.printed.specs.Text.{joined}
+use Rattle.tables.specs.Effect.{State}
+use Rattle.printed.specs.Text.{numberIn, lastOf, joined}
 use Rattle.printed.specs.Buffer.{laidLines}
-use Rattle.runs.specs.Runs.{numberIn}
 use Rattle.looking.specs.declared.Laying.{Laying}
 use Rattle.looking.specs.Places.{looked}
-use Rattle.laying.specs.Buffer.{lineLaid, lastOf, Begun, LastLaid, Lays}
+use Rattle.laying.specs.Buffer.{lineLaid, Begun, LastLaid, Lays}
 use Rattle.looking.proofs.Laying as L
 use Rattle.looking.proofs.Laying.Laws as L′
-use Rattle.laying.proofs.Buffer.{Left, left-first, left-next, lines-length, lays-all, last-fits, line-fits, turn-less}
+use Rattle.laying.proofs.Buffer.{Left, left-first, left-next, lines-length, lays-all, lines-fit, turn-less}
 use Rattle.looking.proofs.look as looks
 use Rattle.looking.proofs.look.Symbol as look-def
 use Rattle.looking.proofs.look.Symbol.{name as #looking·look}
@@ -105,10 +106,10 @@ use Rattle.laying.proofs.lay_last as lay-last
 use Rattle.laying.proofs.lay_last.Symbol as lay-last-def
 use Rattle.laying.proofs.lay_last.Symbol.{name as #laying·lay-last}
 use Rattle.laying.proofs.lay_last.Met as lay-last-thm
-use Rattle.runs.proofs.number_in as number-in
-use Rattle.runs.proofs.number_in.Symbol as number-in-def
-use Rattle.runs.proofs.number_in.Symbol.{name as #runs·number-in}
-use Rattle.runs.proofs.number_in.Met as number-in-thm
+use Rattle.laying.proofs.number_in as number-in
+use Rattle.laying.proofs.number_in.Symbol as number-in-def
+use Rattle.laying.proofs.number_in.Symbol.{name as #laying·number-in}
+use Rattle.laying.proofs.number_in.Met as number-in-thm
 use Rattle.laying.proofs.lay_turns.Key.{name as #laying·lay-turns}
 use Rattle.laying.proofs.lay_turns as lay-turns
 use Rattle.laying.proofs.lay_turns.Statement as stated
@@ -168,7 +169,7 @@ module _ {M : Type 1} (𝓤 : URA M) (H : Heap 𝓤) (A : Atoms 𝓤) (at-mem : 
 
 record Known {M : Type 1} (𝓤 : URA M) (H : Heap 𝓤) (A : Atoms 𝓤) (at-mem : Memory → SProp 𝓤) (run : Routine → Fun 𝓤) (C : Calls 𝓤 H) : Type 2 where
   look : Triple 𝓤 (C #looking·look) (LookOf 𝓤 H A at-mem run)
-  number-in : Triple 𝓤 (C #runs·number-in) (NumberIn 𝓤 H A at-mem run)
+  number-in : Triple 𝓤 (C #laying·number-in) (NumberIn 𝓤 H A at-mem run)
   go-on : Triple 𝓤 (C #lent-run·go-on) (GoesOn 𝓤 H A at-mem run)
   line : Triple 𝓤 (C #laying·lay-line) (LineOf 𝓤 H A at-mem run)
   last : Triple 𝓤 (C #laying·lay-last) (LastOf 𝓤 H A at-mem run)
@@ -183,6 +184,10 @@ record Tables : Type 0 where
   is-checked : Is K.the-row checked (LL.vals K.the-type K′.the-laws checked)
   fits : Fits checked (tables-of block objects)
 
+-- the state that they are
+abbrev state : Tables → State
+state t = stateOf (t .block) (t .objects) (t .tally)
+
 shaped : (d : Block) → Is B.the-row d (LL.vals B.the-type B′.the-laws d) → Shaped d
 shaped d is = record { rows = simp length-map at (LL.owed B.the-type B′.the-laws d _ is .1 .0 .1 .0 .1); barriers = simp length-map at (LL.owed B.the-type B′.the-laws d _ is .1 .1 .0 .1 .0 .1) }
 
@@ -192,7 +197,7 @@ record St (s out₀ : List ℕ) : Type 0 where
   l : Laying
   out : List ℕ
   is-l : Is L.the-row l (LL.vals L.the-type L′.the-laws l)
-  inv : Left s out₀ out (tables .block) (tables .objects) (tables .tally) l
+  inv : Left s out₀ out (state tables) l
 
 module _ {M : Type 1} (𝓤 : URA M) (H : Heap 𝓤) (A : Atoms 𝓤) (W : Given 𝓤 H A) (at-mem : Memory → SProp 𝓤) (run : Routine → Fun 𝓤) (κ κ′ : Lft) (q q″ : Share) (b o : ℕ) (γ : GName) (s : List ℕ) (b′ o′ : ℕ) (γ′ : GName) (out : List ℕ)
     (d : Block) (ys : List Object) (h : Tally) (c : Checked) (l : Laying) (room-s : Room u8 (length s)) (room : Room u8 (length out))
@@ -314,7 +319,7 @@ module _ {M : Type 1} (𝓤 : URA M) (H : Heap 𝓤) (A : Atoms 𝓤) (W : Given
           assigns ! (addr ! (from ! (stop !))) (from ! (stop !)) (init ! 15 refl (tt, tt)) $ move ! (1 ∷ 2 ∷ 3 ∷ []) $
           calls-tables ! fm (plain (λ _. K.the-row) ∷ plain (λ _. S.the-row) ∷ []) G.the-row (yes, (yes, tt)) (go-on.clauses 𝓤 H A at-mem run) (known .go-on) (λ _ _ _. (LL.makes K.the-type K′.the-plain 𝓤 H A, (LL.makes S.the-type S′.the-plain 𝓤 H A, tt))) val-G (LL.tells G.the-type G′.the-laws)
           l₈ l₉ l₁₀ (t .tables .block) (t .tables .objects) (t .tables .tally) (t .tables .are) (λ _ _ _. (t .tables .checked, (l′ .step, tt))) (λ _ _ _. (LL.vals K.the-type K′.the-laws (t .tables .checked), (LL.vals S.the-type S′.the-laws (l′ .step), tt))) (λ _ _ _. (t .tables .is-checked, (is-step is-l′, tt)))
-          (λ _ _ _ _ _ _. tt) (λ _ _ _ _ _ _. id⊢ 𝓤 _) (GoneOn (stateOf (t .tables .block) (t .tables .objects) (t .tables .tally)) (t .tables .checked) (l′ .step)) (λ _ _ _ _ _ _ r ws. id⊢ 𝓤 _)
+          (λ _ _ _ _ _ _. tt) (λ _ _ _ _ _ _. id⊢ 𝓤 _) (GoneOn (state (t .tables)) (t .tables .checked) (l′ .step)) (λ _ _ _ _ _ _ r ws. id⊢ 𝓤 _)
           (λ _ _ _ _ _ _ _. and-then ! (load ! (from ! (stop !)) (look ! 13 refl)) (and-then ! (load ! (from ! (stop !)) (look ! 15 refl)) (and-then ! (load ! (from ! (stop !)) (look ! 16 refl)) (and-then ! (load ! (from ! (stop !)) (look ! 7 refl)) (and-then ! (load ! (from ! (fld ! step-at (stop !))) (look-in ! 6 (sub ! 4 step-at (whole !)))) (no-more !))))))
           (λ g d′ zs h′ gone is-g are′. land ! (from ! (stop !)) (init ! 8 refl (typed-G g is-g)) $
           -- [_8; _9; _10; the trace; the buffer; _7; _6; _11 to _21; _1; _2]
@@ -335,9 +340,9 @@ module _ {M : Type 1} (𝓤 : URA M) (H : Heap 𝓤) (A : Atoms 𝓤) (W : Given
             l = lineLaid l′ n (g .verdict);
             out = out′ (g .verdict);
             is-l = is-l″;
-            inv = left-next s (t .tables .block) (t .tables .objects) (t .tables .tally) (t .l) l′ refl out (t .out) (t .inv) (is-true found) (record { verdict = g .verdict; block = d′ }) zs h′ (so g d′ zs h′ gone .0);
+            inv = left-next s (state (t .tables)) (t .l) out (t .out) (t .inv) (is-true found) (g .verdict) d′ zs h′ (so g d′ zs h′ gone .0);
           })
-          (turn-less s (t .tables .block) (t .tables .objects) (t .tables .tally) (t .l) l′ refl (is-true found) (g .verdict)))))))
+          (turn-less s (state (t .tables)) (t .l) (is-true found)))))))
         where
           l′ : Laying
           l′ = looked s (t .l)
@@ -352,7 +357,7 @@ module _ {M : Type 1} (𝓤 : URA M) (H : Heap 𝓤) (A : Atoms 𝓤) (W : Given
           room′ = subst (Room u8) (sym (t .inv .same)) room
 
           fits : l′ .at + 56 < 18446744073709551616
-          fits = line-fits s (t .tables .block) (t .tables .objects) (t .tables .tally) (t .l) l′ refl out (t .out) (t .inv)
+          fits = omega (arith, lines-fit s (state (t .tables)) (t .l) out (t .out) (t .inv))
 
           is-true : Tr (not (not (l′ .going))) → l′ .going ≡ true
           is-true ok = not-false (l′ .going) (is-false (not (l′ .going)) ok)
@@ -367,9 +372,9 @@ module _ {M : Type 1} (𝓤 : URA M) (H : Heap 𝓤) (A : Atoms 𝓤) (W : Given
           is-checked g is = LL.owed G.the-type G′.the-laws g _ is .1 .0
 
           -- going on is the checked step, and what is known stays so
-          so : (g : Gone) (d′ : Block) (zs : List Object) (h′ : Tally) → GoneOn (stateOf (t .tables .block) (t .tables .objects) (t .tables .tally)) (t .tables .checked) (l′ .step) g d′ zs h′
-              → Stepped (stateOf (t .tables .block) (t .tables .objects) (t .tables .tally)) (l′ .step) (g .verdict) d′ zs h′ × Fits (g .checked) (tables-of d′ zs)
-          so g d′ zs h′ gone = gone-is-stepped (stateOf (t .tables .block) (t .tables .objects) (t .tables .tally)) (t .tables .checked) (l′ .step) g d′ zs h′ (shaped (t .tables .block) (t .tables .are .is-block)) (t .tables .fits) gone
+          so : (g : Gone) (d′ : Block) (zs : List Object) (h′ : Tally) → GoneOn (state (t .tables)) (t .tables .checked) (l′ .step) g d′ zs h′
+              → Stepped (state (t .tables)) (l′ .step) (g .verdict) d′ zs h′ × Fits (g .checked) (tables-of d′ zs)
+          so g d′ zs h′ gone = gone-is-stepped (state (t .tables)) (t .tables .checked) (l′ .step) g d′ zs h′ (shaped (t .tables .block) (t .tables .are .is-block)) (t .tables .fits) gone
 
       -- what no turn touches
       abbrev Frame : List (Item 𝓤)
@@ -398,25 +403,25 @@ module _ {M : Type 1} (𝓤 : URA M) (H : Heap 𝓤) (A : Atoms 𝓤) (W : Given
           -- [the buffer; the trace; _8; _9; _10; and the rest as before]
           move ! (1 ∷ 27 ∷ []) $ shuts-slice ! tt u8 q′ s b o $ move ! (1 ∷ 30 ∷ 31 ∷ 32 ∷ []) $ closes-slice ! tt u8 out out″ same b′ o′ $
           returns ! (look ! 22 refl) $ move ! (22 ∷ 32 ∷ []) $ gone1 ! $ move ! (20 ∷ 31 ∷ []) $ gone1 ! $ move ! (20 ∷ 30 ∷ []) $ gone1 ! $ move ! (20 ∷ 29 ∷ []) $ gone1 ! $ move ! (20 ∷ 28 ∷ []) $ gone1 ! $ move ! (20 ∷ 27 ∷ []) $ gone1 ! $ move ! (8 ∷ 26 ∷ []) $ gone1 ! $ move ! (7 ∷ 25 ∷ []) $ gone1 ! $ move ! (4 ∷ 24 ∷ []) $ gone1 ! $ move ! (4 ∷ 23 ∷ []) $ gone1 ! $ move ! (4 ∷ 22 ∷ []) $ gone1 ! $ move ! (4 ∷ 21 ∷ []) $ free1 ! $ move ! (4 ∷ 20 ∷ []) $ free1 ! $ move ! (4 ∷ 19 ∷ []) $ free1 ! $ move ! (4 ∷ 18 ∷ []) $ free1 ! $ move ! (4 ∷ 17 ∷ []) $ free1 ! $ move ! (4 ∷ 16 ∷ []) $ free1 ! $ move ! (4 ∷ 15 ∷ []) $ free1 ! $ move ! (4 ∷ 14 ∷ []) $ free1 ! $ move ! (4 ∷ 13 ∷ []) $ free1 ! $ move ! (4 ∷ 12 ∷ []) $ free1 ! $ move ! (4 ∷ 11 ∷ []) $ free1 ! $ move ! (4 ∷ 10 ∷ []) $ gone1 ! $ move ! (4 ∷ 9 ∷ []) $ gone1 ! $ move ! (4 ∷ 8 ∷ []) $ gone1 ! $ free0 ! $
-          move ! (5 ∷ 4 ∷ []) $ fjoin ! $ move ! (5 ∷ 0 ∷ []) $ fjoin ! $ by ! (exits size out″ same (lays-all s (t .tables .block) (t .tables .objects) (t .tables .tally) (t .l) l′ refl out (t .out) (t .inv) none size out″ (record { size = refl; bytes = refl })) is-r))
+          move ! (5 ∷ 4 ∷ []) $ fjoin ! $ move ! (5 ∷ 0 ∷ []) $ fjoin ! $ by ! (exits size out″ same (lays-all s (state (t .tables)) (t .l) out (t .out) (t .inv) none size out″ (record { size = refl; bytes = refl })) is-r))
         where
           l′ : Laying
           l′ = looked s (t .l)
 
           size : ℕ
-          size = l′ .at + length (joined (lastOf l′ (t .tables .tally)))
+          size = l′ .at + length (joined (lastOf (t .tables .tally) (l′ .stop)))
 
           out″ : List ℕ
-          out″ = laidLines (t .out) (l′ .at) (lastOf l′ (t .tables .tally))
+          out″ = laidLines (t .out) (l′ .at) (lastOf (t .tables .tally) (l′ .stop))
 
           same : length out″ ≡ length out
-          same = lines-length (t .out) (l′ .at) (lastOf l′ (t .tables .tally)) ∙ t .inv .same
+          same = lines-length (t .out) (l′ .at) (lastOf (t .tables .tally) (l′ .stop)) ∙ t .inv .same
 
           room′ : Room u8 (length (t .out))
           room′ = subst (Room u8) (sym (t .inv .same)) room
 
           fits : l′ .at + 112 < 18446744073709551616
-          fits = last-fits s (t .tables .block) (t .tables .objects) (t .tables .tally) (t .l) l′ refl out (t .out) (t .inv) none
+          fits = lines-fit s (state (t .tables)) (t .l) out (t .out) (t .inv)
 
       -- the loop, and what follows it
       around : (t : St s out) → Sq W (I Frame t) (runs (𝓣 .C) (𝓣 .Λ) En steps.t-4 (atRet En Post))
@@ -441,7 +446,7 @@ module _ {M : Type 1} (𝓤 : URA M) (H : Heap 𝓤) (A : Atoms 𝓤) (W : Given
         around q′ l₀ l₁ l₂ l₃ l₄ l₅ l₆ l₇ l₈ l₉ l₁₀ l₁₁ l₁₂ l₁₃ l₁₄ l₁₅ l₁₆ l₁₇ l₁₈ l₁₉ l₂₀ l₂₁ l₂₂ l₂₃ l₂₄ start))))))))))))))))))))))))))
       where
         start : St s out
-        start = record { tables = record { block = d; objects = ys; tally = h; checked = c; are = record { is-block = is-d; is-rows = is-ys; is-tally = is-h }; is-checked = is-c; fits = begun .fits }; l = l; out = out; is-l = is-l; inv = left-first s out d ys h l c begun }
+        start = record { tables = record { block = d; objects = ys; tally = h; checked = c; are = record { is-block = is-d; is-rows = is-ys; is-tally = is-h }; is-checked = is-c; fits = begun .fits }; l = l; out = out; is-l = is-l; inv = left-first s out d ys h c l begun }
 
 module _ {M : Type 1} (𝓤 : URA M) (H : Heap 𝓤) (A : Atoms 𝓤) (W : Given 𝓤 H A) (mem : Memory → SProp 𝓤) (run : Routine → Fun 𝓤) (𝓣 : Calling 𝓤 H) where
   lay-turns-walks : Known 𝓤 H A mem run (𝓣 .C) → Walks 𝓤 H A lay-turns.ended stayed (WpFn 𝓤 H (𝓣 .C) (𝓣 .Λ) code.function) (lay-turns.clauses 𝓤 H A mem run)
@@ -460,7 +465,7 @@ lay-turns-spec 𝓤 H 𝓜 𝓖 𝓡 =
     (lay-turns.clauses 𝓤 H (𝓖 .A) (𝓜 .mem) (𝓡 .run)) #laying·lay-turns code.function (code.unfolded 𝓤 H 𝓜 𝓡)
     (lay-turns-walks 𝓤 H (𝓖 .A) (givenOf 𝓤 H 𝓜 𝓖) (𝓜 .mem) (𝓡 .run) (over 𝓤 H 𝓜 𝓖 𝓡 code.env) (record {
       look = cited 𝓤 H (LookOf 𝓤 H (𝓖 .A) (𝓜 .mem) (𝓡 .run)) 𝓜 𝓡 code.env #looking·look look-def.routine code.calls-looking·look (look-thm.met 𝓤 H 𝓜 𝓖 𝓡);
-      number-in = cited 𝓤 H (NumberIn 𝓤 H (𝓖 .A) (𝓜 .mem) (𝓡 .run)) 𝓜 𝓡 code.env #runs·number-in number-in-def.routine code.calls-runs·number-in (number-in-thm.met 𝓤 H 𝓜 𝓖 𝓡);
+      number-in = cited 𝓤 H (NumberIn 𝓤 H (𝓖 .A) (𝓜 .mem) (𝓡 .run)) 𝓜 𝓡 code.env #laying·number-in number-in-def.routine code.calls-laying·number-in (number-in-thm.met 𝓤 H 𝓜 𝓖 𝓡);
       go-on = cited 𝓤 H (GoesOn 𝓤 H (𝓖 .A) (𝓜 .mem) (𝓡 .run)) 𝓜 𝓡 code.env #lent-run·go-on go-on-def.routine code.calls-lent-run·go-on (go-on-thm.met 𝓤 H 𝓜 𝓖 𝓡);
       line = cited 𝓤 H (LineOf 𝓤 H (𝓖 .A) (𝓜 .mem) (𝓡 .run)) 𝓜 𝓡 code.env #laying·lay-line lay-line-def.routine code.calls-laying·lay-line (lay-line-thm.met 𝓤 H 𝓜 𝓖 𝓡);
       last = cited 𝓤 H (LastOf 𝓤 H (𝓖 .A) (𝓜 .mem) (𝓡 .run)) 𝓜 𝓡 code.env #laying·lay-last lay-last-def.routine code.calls-laying·lay-last (lay-last-thm.met 𝓤 H 𝓜 𝓖 𝓡);
