@@ -1,8 +1,8 @@
 -- Laws about a text that is being laid.
 -- Assumes nothing.
-use mathlib.Core.Path.{_≡_, refl, sym, ap, _∙_, subst}
+use mathlib.Core.Path.{_≡_, refl, sym, ap, _∙_}
 use mathlib.Core.Bool.{true, false}
-use mathlib.Core.List.{List, [], _∷_, _++_}
+use mathlib.Core.List.{List, [], _∷_}
 use Prim.Native.Nat.{ℕ, _+_, _-_, _≤_, _<_}
 use native.Mathlib.Omega.{arith}
 use native.Mathlib.Nat.{zero-add}
@@ -122,16 +122,20 @@ module _ (before : List ℕ) (l : Laying) (y : Tally) where
       record { size = rw (whole, size) (omega (arith, length-append (endIn y) [])); bytes = rw whole e }
 
   -- the line of a 1 or 2, and the end line
-  pub last-stop : (l .stop ≡ 0 → ⊥) → (at : ℕ) → at ≡ l .at + length (lineOf (numberIn y) (Refused (l .stop))) → (all : Tally) → all ≡ tallied y (Refused (l .stop))
-      → (mid after : List ℕ) → mid ≡ laid before (l .at) (lineOf (numberIn y) (Refused (l .stop))) → (k : ℕ) → k ≡ length (endIn all) → after ≡ laid mid at (endIn all) → LastLaid before l y (at + k) after
-  last-stop some at place all counted mid after first k size e =
+  pub last-stop : (l .stop ≡ 0 → ⊥) → (n i k : ℕ) (all : Tally) (mid after : List ℕ) → n ≡ numberIn y → i ≡ length (lineOf n (Refused (l .stop)))
+      → mid ≡ laid before (l .at) (lineOf n (Refused (l .stop))) → all ≡ tallied y (Refused (l .stop)) → k ≡ length (endIn all) → after ≡ laid mid (l .at + i) (endIn all)
+      → LastLaid before l y (l .at + i + k) after
+  last-stop some n i k all mid after number size first counted size′ last =
       let w = lineOf (numberIn y) (Refused (l .stop)) in
       let z = endIn (tallied y (Refused (l .stop))) in
       let whole : lastOf y (l .stop) ≡ w ∷ z ∷ [] = rw (ne-eqb (l .stop) 0 some) in
+      let line : lineOf n (Refused (l .stop)) ≡ w = ap (λ (m : ℕ). lineOf m (Refused (l .stop))) number in
+      let at : i ≡ length w = size ∙ ap length line in
       let ends : endIn all ≡ z = ap endIn counted in
+      let starts : mid ≡ laid before (l .at) w = first ∙ ap (laid before (l .at)) line in
       record {
-        size = rw (whole, place) (omega (arith, size ∙ ap length ends, length-append w (z ++ []), length-append z []));
-        bytes = rw whole (e ∙ (λ i. laid (first i) (place i) (ends i)));
+        size = rw whole (omega (arith, at, size′ ∙ ap length ends, two-joined w z));
+        bytes = rw whole (last ∙ (λ j. laid (starts j) (l .at + at j) (ends j)));
       }
 
 -- two lines alone

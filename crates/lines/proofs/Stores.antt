@@ -21,34 +21,35 @@ take-sets l l′ w k size h e =
     let at-start : l′ ≡ w ++ drop (0 + length w) l = e ∙ sets-eq w l 0 (omega arith) in
     rw at-start (take-at w (drop (0 + length w) l) k (sym size))
 
--- these bytes were stored from the start of l on, up to a place
-pub record Stored (l w l′ : List ℕ) (j : ℕ) : Type 0 where
-  pub lies : l′ ≡ sets l 0 w
-  pub upto : j ≡ length w
+-- these bytes were stored in l from i on, up to a place
+pub record Stored (l : List ℕ) (i : ℕ) (w l′ : List ℕ) (j : ℕ) : Type 0 where
+  pub lies : l′ ≡ sets l i w
+  pub upto : j ≡ i + length w
+
+-- nothing yet
+pub begin : (l : List ℕ) (i : ℕ) → Stored l i [] l i
+begin l i = record { lies = refl; upto = sym (add-zero i) }
 
 -- and these after them
-pub next : {l w l′ l″ : List ℕ} {j k : ℕ} → Stored l w l′ j → (x : List ℕ) → l″ ≡ sets l′ j x → k ≡ j + length x → Stored l (w ++ x) l″ k
-next {l} {w} {l′} {l″} {j} {k} s x e f = record {
-  lies = e ∙ ap (λ m. sets m j x) (s .lies) ∙ sets-append l 0 j w x (omega (arith, s .upto));
+pub next : {l w l′ l″ : List ℕ} {i j k : ℕ} → Stored l i w l′ j → (x : List ℕ) → l″ ≡ sets l′ j x → k ≡ j + length x → Stored l i (w ++ x) l″ k
+next {l} {w} {l′} {l″} {i} {j} {k} s x e f = record {
+  lies = e ∙ ap (λ m. sets m j x) (s .lies) ∙ sets-append l i j w x (sym (s .upto));
   upto = omega (arith, s .upto, length-append w x);
 }
 
--- nothing yet
-pub begin : (l : List ℕ) → Stored l [] l 0
-begin l = record { lies = refl; upto = refl }
-
--- the length stays
-pub same : {l w l′ : List ℕ} {j : ℕ} → Stored l w l′ j → length l′ ≡ length l
-same {l} {w} s = ap length (s .lies) ∙ length-sets l 0 w
-
 -- bytes that are laid where they fit
-pub next-laid : {l w l′ l″ : List ℕ} {j k : ℕ} → Stored l w l′ j → (x : List ℕ) → l″ ≡ laid l′ j x → j + length x ≤ length l → k ≡ j + length x
-    → Stored l (w ++ x) l″ k
-next-laid {l} {w} {l′} {l″} {j} s x e fits f = next s x (e ∙ sym (laid-fits l′ j x (omega (arith, same s)))) f
+pub next-laid : {l w l′ l″ : List ℕ} {i j k : ℕ} → Stored l i w l′ j → (x : List ℕ) → l″ ≡ laid l′ j x → j + length x ≤ length l → k ≡ j + length x
+    → Stored l i (w ++ x) l″ k
+next-laid {l} {w} {l′} {l″} {i} {j} s x e fits f =
+    next s x (e ∙ sym (laid-fits l′ j x (omega (arith, ap length (s .lies) ∙ length-sets l i w)))) f
 
 -- a number and what stands after it, from the start on
-pub numbered : {l l′ : List ℕ} {j : ℕ} (x y : List ℕ) → l′ ≡ sets l 0 (x ++ y) → j ≡ length x + length y → Stored l (x ++ y) l′ j
-numbered {l} x y e f = next (begin l) (x ++ y) e (omega (arith, length-append x y))
+pub numbered : {l l′ : List ℕ} {j : ℕ} (x y : List ℕ) → l′ ≡ sets l 0 (x ++ y) → j ≡ length x + length y → Stored l 0 (x ++ y) l′ j
+numbered x y e f = record { lies = e; upto = omega (arith, f, length-append x y) }
+
+-- what was stored from the start on is a line
+pub ends : {l w l′ line : List ℕ} {k : ℕ} → Stored l 0 w l′ k → w ≡ line → (k ≡ length line) × (l′ ≡ sets l 0 line)
+ends {l} {w} s e = (s .upto ∙ zero-add (length w) ∙ ap length e, s .lies ∙ ap (sets l 0) e)
 
 -- bytes stored at the start of a part of a list are laid where the part starts
 pub part-laid : (l w : List ℕ) (a k : ℕ) → a + k ≤ length l → length w ≤ k → take a l ++ (sets (take k (drop a l)) 0 w ++ drop k (drop a l)) ≡ laid l a w

@@ -1,14 +1,10 @@
 -- `laying::lay_last` meets its contract: with the line of a 1 or 2 and without it.
 -- Assumes nothing.
-use mathlib.Core.Path.{ap, _∙_}
-use Prim.Native.Nat.{ℕ, _+_, _<_}
+use Prim.Native.Nat.{_+_, _<_}
 use native.Mathlib.Omega.{arith}
-use lib.ListN.{length}
 use borrow.Author.Needs.{needs}
 use denote.Ref.{now}
 use Rattle.block.specs.declared.Verdict.the-variants.{Refused}
-use Rattle.fields.specs.Num.{laid}
-use Rattle.lines.specs.Lines.{lineOf}
 use Rattle.lines.proofs.Lines.{line-most, end-most}
 use Rattle.laying.proofs.Buffer.{last-end, last-stop}
 use Rattle.laying.proofs.lay_last.Statement.{statement}
@@ -53,22 +49,8 @@ returns c =
     let t = e .before .before in
     let p = t .before .before .before .before in
     let a = start p .args in
-    let n = p .before .number-in .ensures in
-    last-stop
-    (now (a .out))
-    (a .l)
-    (a .lines)
-    (p .before .before .before .if1 .taken)
-    _
-    (ap (λ (k : ℕ). a .l .at + k) (p .put-line .ensures .0 ∙ ap (λ (k : ℕ). length (lineOf k (Refused (a .l .stop)))) n))
-    (t .add .result)
-    (t .add .ensures)
-    (p .put-line .last .0)
-    (e .put-end .last .0)
-    (p .put-line .ensures .1 ∙ ap (λ (k : ℕ). laid (now (a .out)) (a .l .at) (lineOf k (Refused (a .l .stop)))) n)
-    (e .put-end .result)
-    (e .put-end .ensures .0)
-    (e .put-end .ensures .1)
+    last-stop (now (a .out)) (a .l) (a .lines) (p .before .before .before .if1 .taken) (p .before .number-in .result) (p .put-line .result) (e .put-end .result) (t .add .result)
+    (p .put-line .last .0) (e .put-end .last .0) (p .before .number-in .ensures) (p .put-line .ensures .0) (p .put-line .ensures .1) (t .add .ensures) (e .put-end .ensures .0) (e .put-end .ensures .1)
 
 put-end-requires-2 : tie.Need-put-end-requires-2
 put-end-requires-2 c κs = search needs

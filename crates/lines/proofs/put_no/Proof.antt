@@ -1,32 +1,24 @@
 -- `lines::put_no` meets its contract: word after word, and the newline.
 -- Assumes nothing.
-use mathlib.Core.Path.{refl, ap, _∙_}
-use mathlib.Core.List.{List, [], _∷_, _++_}
+use mathlib.Core.Path.{refl, _∙_}
+use mathlib.Core.List.{[], _∷_}
 use Prim.Native.Nat.{ℕ, _+_, _≤_}
 use native.Mathlib.Omega.{arith}
 use borrow.Author.Needs.{needs}
-use denote.Ref.{now}
-use lib.ListN.{length, set}
-use lib.Seq.{sets}
+use lib.ListN.{length-set}
 use Rattle.digits.specs.Digits.{decimal}
 use Rattle.digits.proofs.Digits.{decimal-most}
-use Rattle.lines.proofs.Stores.{Stored, numbered, next, next-laid, same}
+use Rattle.lines.proofs.Stores.{numbered, next, next-laid, ends}
 use Rattle.lines.proofs.Lines.{no-line}
 use Rattle.lines.proofs.put_no.Statement.{statement}
 use Rattle.lines.proofs.put_no.Tie as tie
 
--- the places: after the start, after the refusal
+-- the places: at the start, after the number and the word
 abbrev entered : tie.After-put-start → tie.Start
 entered q = q .before .before .before .before
 
 abbrev first : tie.After-put-decimal → tie.After-put-start
 first p = p .before .before .before .before
-
-abbrev to-no : tie.Start → List ℕ
-to-no s = decimal (s .args .n) ++ 32 ∷ 110 ∷ 111 ∷ 32 ∷ []
-
-said : (q : tie.After-put-start) → Stored (now (entered q .args .out)) (to-no (entered q)) (q .put-start .last .0) (q .put-start .result)
-said q = numbered (decimal (entered q .args .n)) (32 ∷ 110 ∷ 111 ∷ 32 ∷ []) (q .put-start .ensures .1) (q .put-start .ensures .0)
 
 abbrev end : tie.After-put-decimal → ℕ
 end p = first p .put-start .result + p .put-decimal .result
@@ -34,19 +26,8 @@ end p = first p .put-start .result + p .put-decimal .result
 -- how far the refusal can end
 place : (p : tie.After-put-decimal) → end p ≤ 44
 place p =
-    let s = entered (first p) in
-    omega (arith, p .put-decimal .ensures .0, first p .put-start .ensures .0, decimal-most (s .args .n), decimal-most (s .args .refusal))
-
-refused : (p : tie.After-put-decimal)
-    → Stored (now (entered (first p) .args .out)) (to-no (entered (first p)) ++ decimal (entered (first p) .args .refusal)) (p .put-decimal .last .0) (end p)
-refused p =
-    next-laid (said (first p)) (decimal (entered (first p) .args .refusal)) (p .put-decimal .ensures .1)
-    (omega (arith, place p, p .put-decimal .ensures .0, entered (first p) .pre)) (omega (arith, p .put-decimal .ensures .0))
-
-ended : (p : tie.After-put-decimal)
-    → Stored (now (entered (first p) .args .out)) ((to-no (entered (first p)) ++ decimal (entered (first p) .args .refusal)) ++ (10 ∷ []))
-    (set (p .put-decimal .last .0) (end p) 10) (end p + 1)
-ended p = next (refused p) (10 ∷ []) refl refl
+    let a = entered (first p) .args in
+    omega (arith, p .put-decimal .ensures .0, first p .put-start .ensures .0, decimal-most (a .n), decimal-most (a .refusal))
 
 slice-aggregate-put-start : tie.Need-slice-aggregate-put-start
 slice-aggregate-put-start c = search needs
@@ -63,20 +44,25 @@ add-b c = omega (arith, place (c .before .before))
 slice-write-out : tie.Need-slice-write-out
 slice-write-out c =
     let p = c .before .before in
-    omega (arith, place p, same (refused p), entered (first p) .pre)
+    omega (arith, place p, p .put-decimal .kept .0, first p .put-start .kept .0, entered (first p) .pre)
 
 add-result : tie.Need-add-result
 add-result c = omega (arith, place (c .before .before))
 
 same-length : tie.Need-same-length
-same-length c = same (ended (c .before .before))
+same-length c =
+    let p = c .before .before in
+    simp length-set (p .put-decimal .kept .0 ∙ first p .put-start .kept .0)
 
 returns : tie.Need-returns
 returns c =
     let p = c .before .before in
-    let a = entered (first p) .args in
-    let e = no-line (a .n) (a .refusal) in
-    (ended p .upto ∙ ap length e, ended p .lies ∙ ap (sets (now (a .out)) 0) e)
+    let q = first p in
+    let s = entered q in
+    let a = s .args in
+    let said = numbered (decimal (a .n)) (32 ∷ 110 ∷ 111 ∷ 32 ∷ []) (q .put-start .ensures .1) (q .put-start .ensures .0) in
+    let refused = next-laid {k = end p} said (decimal (a .refusal)) (p .put-decimal .ensures .1) (omega (arith, place p, p .put-decimal .ensures .0, s .pre)) (omega (arith, p .put-decimal .ensures .0)) in
+    ends (next refused (10 ∷ []) refl refl) (no-line (a .n) (a .refusal))
 
 pub put-no-spec : {M : Type 1} → statement M
 put-no-spec =

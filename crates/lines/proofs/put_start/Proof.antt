@@ -33,7 +33,7 @@ returns c =
     let a = s .args in
     let most = decimal-most (a .n) in
     let number =
-    next-laid {k = p .put-decimal .result} (begin (now (a .out))) (decimal (a .n)) (p .put-decimal .ensures .1)
+    next-laid {k = p .put-decimal .result} (begin (now (a .out)) 0) (decimal (a .n)) (p .put-decimal .ensures .1)
     (omega (arith, most, s .pre .0)) (omega (arith, p .put-decimal .ensures .0)) in
     let word = next-laid number (now (a .word)) (q .put .ensures) (omega (arith, p .put-decimal .ensures .0, most, s .pre .0, s .pre .1)) refl in
     (omega (arith, p .put-decimal .ensures .0, s .pre .1), word .lies)

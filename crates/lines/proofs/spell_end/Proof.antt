@@ -1,16 +1,15 @@
 -- `lines::spell_end` meets its contract: word after word, with a byte after each.
 -- Assumes nothing.
-use mathlib.Core.Path.{refl, ap, _∙_}
-use mathlib.Core.List.{List, [], _∷_, _++_}
+use mathlib.Core.Path.{_≡_, refl, _∙_}
+use mathlib.Core.List.{[], _∷_}
 use Prim.Native.Nat.{ℕ, _+_, _≤_}
 use native.Mathlib.Omega.{arith}
 use borrow.Author.Needs.{needs}
 use denote.Ref.{now}
-use lib.ListN.{length, set}
-use lib.Seq.{sets}
+use lib.ListN.{length, length-set}
 use Rattle.digits.specs.Digits.{decimal}
 use Rattle.digits.proofs.Digits.{decimal-most}
-use Rattle.lines.proofs.Stores.{Stored, begin, next, next-laid, same}
+use Rattle.lines.proofs.Stores.{begin, next, next-laid, ends}
 use Rattle.lines.proofs.Lines.{end-line}
 use Rattle.lines.proofs.spell_end.Statement.{statement}
 use Rattle.lines.proofs.spell_end.Tie as tie
@@ -25,51 +24,24 @@ first p = p .before .before .before .before
 abbrev second : tie.After-put-decimal2 → tie.After-put-decimal
 second r = r .before .before .before .before
 
-abbrev word : List ℕ
-word = 101 ∷ 110 ∷ 100 ∷ 32 ∷ []
-
-said : (q : tie.After-put) → Stored (now (started q .args .out)) word (q .put .last .0) 4
-said q = next-laid (begin (now (started q .args .out))) word (q .put .ensures) (omega (arith, started q .pre)) refl
-
 abbrev end : tie.After-put-decimal → ℕ
 end p = 4 + p .put-decimal .result
-
--- how far the accepted number can end
-place : (p : tie.After-put-decimal) → end p ≤ 24
-place p = omega (arith, p .put-decimal .ensures .0, decimal-most (started (first p) .args .accepted))
-
-abbrev to-accepted : tie.Start → List ℕ
-to-accepted s = (word ++ decimal (s .args .accepted)) ++ (32 ∷ [])
-
-counted : (p : tie.After-put-decimal)
-    → Stored (now (started (first p) .args .out)) (word ++ decimal (started (first p) .args .accepted)) (p .put-decimal .last .0) (end p)
-counted p =
-    next-laid (said (first p)) (decimal (started (first p) .args .accepted)) (p .put-decimal .ensures .1)
-    (omega (arith, place p, p .put-decimal .ensures .0, started (first p) .pre)) (omega (arith, p .put-decimal .ensures .0))
-
-accepted : (p : tie.After-put-decimal)
-    → Stored (now (started (first p) .args .out)) (to-accepted (started (first p))) (set (p .put-decimal .last .0) (end p) 32) (end p + 1)
-accepted p = next (counted p) (32 ∷ []) refl refl
 
 abbrev last : tie.After-put-decimal2 → ℕ
 last r = end (second r) + 1 + r .put-decimal2 .result
 
--- how far the refused number can end
+-- how far the numbers can end, and how many bytes there are
+place : (p : tie.After-put-decimal) → end p ≤ 24
+place p = omega (arith, p .put-decimal .ensures .0, decimal-most (started (first p) .args .accepted))
+
 place-2 : (r : tie.After-put-decimal2) → last r ≤ 45
 place-2 r = omega (arith, place (second r), r .put-decimal2 .ensures .0, decimal-most (started (first (second r)) .args .refused))
 
-refused : (r : tie.After-put-decimal2)
-    → Stored (now (started (first (second r)) .args .out))
-    (to-accepted (started (first (second r))) ++ decimal (started (first (second r)) .args .refused)) (r .put-decimal2 .last .0) (last r)
-refused r =
-    next-laid (accepted (second r)) (decimal (started (first (second r)) .args .refused)) (r .put-decimal2 .ensures .1)
-    (omega (arith, place-2 r, r .put-decimal2 .ensures .0, started (first (second r)) .pre)) (omega (arith, r .put-decimal2 .ensures .0))
+kept : (p : tie.After-put-decimal) → length (p .put-decimal .last .0) ≡ length (now (started (first p) .args .out))
+kept p = p .put-decimal .kept .0 ∙ first p .put .kept .0
 
-ended : (r : tie.After-put-decimal2)
-    → Stored (now (started (first (second r)) .args .out))
-    ((to-accepted (started (first (second r))) ++ decimal (started (first (second r)) .args .refused)) ++ (10 ∷ []))
-    (set (r .put-decimal2 .last .0) (last r) 10) (last r + 1)
-ended r = next (refused r) (10 ∷ []) refl refl
+kept-2 : (r : tie.After-put-decimal2) → length (r .put-decimal2 .last .0) ≡ length (now (started (first (second r)) .args .out))
+kept-2 r = simp length-set at (r .put-decimal2 .kept .0) ∙ kept (second r)
 
 slice-aggregate-put : tie.Need-slice-aggregate-put
 slice-aggregate-put c = search needs
@@ -86,7 +58,7 @@ add-a c = omega (arith, place (c .before .before))
 slice-write-out : tie.Need-slice-write-out
 slice-write-out c =
     let p = c .before .before in
-    omega (arith, place p, same (counted p), started (first p) .pre)
+    omega (arith, place p, kept p, started (first p) .pre)
 
 add-b : tie.Need-add-b
 add-b c = omega (arith, place (c .before .before))
@@ -103,20 +75,26 @@ add-b-2 c = omega (arith, place-2 (c .before .before))
 slice-write-out-2 : tie.Need-slice-write-out-2
 slice-write-out-2 c =
     let r = c .before .before in
-    omega (arith, place-2 r, same (refused r), started (first (second r)) .pre)
+    omega (arith, place-2 r, kept-2 r, started (first (second r)) .pre)
 
 add-result : tie.Need-add-result
 add-result c = omega (arith, place-2 (c .before .before))
 
 same-length : tie.Need-same-length
-same-length c = same (ended (c .before .before))
+same-length c = simp length-set (kept-2 (c .before .before))
 
 returns : tie.Need-returns
 returns c =
     let r = c .before .before in
-    let a = started (first (second r)) .args in
-    let e = end-line (a .accepted) (a .refused) in
-    (ended r .upto ∙ ap length e, ended r .lies ∙ ap (sets (now (a .out)) 0) e)
+    let p = second r in
+    let q = first p in
+    let s = started q in
+    let a = s .args in
+    let said = next-laid {k = 4} (begin (now (a .out)) 0) (101 ∷ 110 ∷ 100 ∷ 32 ∷ []) (q .put .ensures) (omega (arith, s .pre)) refl in
+    let accepted = next-laid {k = end p} said (decimal (a .accepted)) (p .put-decimal .ensures .1) (omega (arith, place p, p .put-decimal .ensures .0, s .pre)) (omega (arith, p .put-decimal .ensures .0)) in
+    let apart = next {k = end p + 1} accepted (32 ∷ []) refl refl in
+    let refused = next-laid {k = last r} apart (decimal (a .refused)) (r .put-decimal2 .ensures .1) (omega (arith, place-2 r, r .put-decimal2 .ensures .0, s .pre)) (omega (arith, r .put-decimal2 .ensures .0)) in
+    ends (next refused (10 ∷ []) refl refl) (end-line (a .accepted) (a .refused))
 
 pub spell-end-spec : {M : Type 1} → statement M
 spell-end-spec =
