@@ -4,12 +4,26 @@ use mathlib.Core.Path.{_≡_}
 use mathlib.Core.List.{List, [], _∷_}
 use Prim.Native.Nat.{ℕ, _≤_}
 use lib.ListN.{length, getD}
+use Rattle.block.specs.declared.Verdict.{Verdict}
+use Rattle.tables.specs.declared.Tally.{Tally}
+use Rattle.tables.specs.Tables.{tallied}
+use Rattle.tables.specs.Effect.{State}
 use Rattle.printed.specs.Run.{runFrom, freshState, runOf}
 use Rattle.printed.specs.Text.{textOf, roomFor}
 
 -- as many steps as there are bytes are enough: more that may be read change nothing
 abbrev pub MoreChangesNothing : Type 0
 MoreChangesNothing = (s : List ℕ) (most : ℕ) → length s ≤ most → runFrom most s (freshState (getD s 0 0)) 1 ≡ runOf s
+
+-- so many lines, and those of these verdicts
+abbrev pub countedIn : Tally → List Verdict → Tally
+countedIn y [] = y
+countedIn y (v ∷ vs) = countedIn (tallied y v) vs
+
+-- the tally that a run ends with has counted the lines of its steps, so that what follows them goes on with the next number
+abbrev pub TallyCountsLines : Type 0
+TallyCountsLines =
+    (most : ℕ) (s : List ℕ) (x : State) (at : ℕ) → runFrom most s x at .state .tally ≡ countedIn (x .tally) (runFrom most s x at .verdicts)
 
 -- the room for a trace of some length is enough for its text
 abbrev pub RoomIsEnough : Type 0

@@ -30,7 +30,7 @@ traceRefusal s =
 abbrev pub numberIn : Tally → ℕ
 numberIn y = min (y .accepted + y .refused + 1) largest
 
--- the lines of some verdicts
+-- the lines of some verdicts, after so many accepted and refused
 abbrev pub linesOf : Tally → List Verdict → List (List ℕ)
 linesOf y [] = []
 linesOf y (v ∷ vs) = lineOf (numberIn y) v ∷ linesOf (tallied y v) vs
@@ -39,7 +39,7 @@ linesOf y (v ∷ vs) = lineOf (numberIn y) v ∷ linesOf (tallied y v) vs
 abbrev pub endIn : Tally → List ℕ
 endIn y = endOf (y .accepted) (y .refused)
 
--- what follows the last step: the line of a 1 or 2, if it stopped at one, and the end line, which counts that too
+-- what follows the last step, after so many: the line of the 1 or 2 that it stopped at, if it did, and the end line, which counts that one too
 abbrev pub lastOf : Tally → ℕ → List (List ℕ)
 lastOf y n = cond (eqb n 0) (endIn y ∷ []) (lineOf (numberIn y) (Refused n) ∷ endIn (tallied y (Refused n)) ∷ [])
 
