@@ -4,11 +4,9 @@ use mathlib.Core.Bool.{Bool, false, not, cond, _&&_, _||_}
 use Prim.Native.Nat.{ℕ, _+_, _*_, _%_}
 use lib.Dec.{eqb, leb, ltb}
 use Rattle.sets.specs.Sets.{digit, size, part, put}
-use Rattle.block.specs.Tables.{laneCount, formNumber, isIdle, isReduction}
-use Rattle.block.specs.declared.Status.the-variants.{Ready}
+use Rattle.block.specs.Tables.{laneCount, formNumber, isIdle}
 use Rattle.block.specs.declared.Form.{Form}
 use Rattle.block.specs.declared.Form.the-variants.{Idle, Plain, Popc, And, Or}
-use Rattle.block.specs.declared.Warp.{Warp}
 use Rattle.block.specs.declared.Barrier.{Barrier}
 use Rattle.block.specs.declared.Threads.{Threads}
 use Rattle.block.specs.declared.Threads.the-variants.{All, Given}
@@ -61,7 +59,3 @@ resultOf r = result (r .form)
     result Popc = r .trues
     result And = digit (eqb (r .trues) (laneCount * size (r .arrived)))
     result Or = digit (ltb 0 (r .trues))
-
--- a released warp is ready; of a red it gets the result
-abbrev pub releasedWarp : Barrier → Warp → Warp
-releasedWarp r x = record { status = Ready; result = cond (isReduction (r .form)) (resultOf r) (x .result) }

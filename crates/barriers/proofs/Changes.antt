@@ -16,7 +16,7 @@ use Rattle.folds.specs.Folds.{first, every, firsts}
 use Rattle.sets.specs.Sets.{has, put, part}
 use Rattle.sets.proofs.Sets.{has-none, has-and, has-put-own, has-put-other, has-setOf, setOf-lt, ext, part-has}
 use Rattle.block.specs.Tables.{mostWarps, barrierCount, freshWarp, idle, barrierAt, isIdle, isExited, liveOf}
-use Rattle.barrier_row.specs.Rows.{arrivedRow, completes, releasedWarp}
+use Rattle.barrier_row.specs.Rows.{arrivedRow, completes}
 use Rattle.block.specs.declared.Status.the-variants.{Ready, Waiting, Exited}
 use Rattle.block.specs.declared.Warp.{Warp}
 use Rattle.block.specs.declared.Barrier.{Barrier}
@@ -25,20 +25,20 @@ use Rattle.block.specs.declared.Call.{Call}
 use Rattle.block.specs.declared.Verdict.{Verdict}
 use Rattle.block.specs.declared.Verdict.the-variants.{Accepted}
 use Rattle.block.specs.declared.Turn.{Turn}
-use Rattle.barriers.specs.Steps.{warpLine, warpRefusal, callRefusal, arrivalLine, arrivalRefusal, releasedWarps, completed, goesOn, refused, arrival, without, opened, exit}
-use Rattle.barriers.specs.Changes.{withStatus, changed, noChange, made, refusing, goingOn, completing, arriving, arrivalMoved, ArrivalSeen, firstOpening, exitMoved, ExitSeen}
+use Rattle.barriers.specs.Steps.{warpLine, warpRefusal, callRefusal, arrivalLine, arrivalRefusal, releasedWarp, releasedWarps, freedBy, completed, goesOn, refused, arrival, without, opened, exit}
+use Rattle.barriers.specs.Changes.{withStatus, changed, noneFreed, noChange, made, refusing, goingOn, completing, arriving, arrivalMoved, ArrivalSeen, firstOpening, exitMoved, ExitSeen}
 use Rattle.barriers.proofs.Steps.{warp-line, line-6, call-line}
 
 -- where none waits, none is released
-freed-none : (n i : ℕ) (ws : List Warp) → firsts n i (λ w x. cond (has 0 w) (releasedWarp idle x) x) ws ≡ ws
+freed-none : (n i : ℕ) (ws : List Warp) → firsts n i (releasedWarp noneFreed) ws ≡ ws
 unfolding firsts
 freed-none zero i ws = refl
 freed-none (suc n) i [] = refl
 freed-none (suc n) i (x ∷ ws) =
-    (λ j. cond (has-none i j) (releasedWarp idle x) x ∷ firsts n (suc i) (λ w y. cond (has 0 w) (releasedWarp idle y) y) ws)
+    (λ j. cond (has-none i j) (record { status = Ready; result = x .result }) x ∷ firsts n (suc i) (releasedWarp noneFreed) ws)
     ∙ ap (λ (t : List Warp). x ∷ t) (freed-none n (suc i) ws)
 
-pub none-released : (ws : List Warp) → releasedWarps idle ws ≡ ws
+pub none-released : (ws : List Warp) → releasedWarps noneFreed ws ≡ ws
 none-released ws = freed-none mostWarps 0 ws
 
 -- the same verdict with the same rows is the same turn
@@ -63,7 +63,7 @@ module _ (b : Block) (l : length (b .rows) ≡ mostWarps) (m : length (b .barrie
   unchanged = ap (λ (t : Turn). t .block) (made-refused 0)
 
   pub made-completed : (k : ℕ) (r : Barrier) → made b (completing mostWarps Ready k r) ≡ completed b k r
-  made-completed k r = same-turn _ _ (ap (releasedWarps r) no-warp) refl
+  made-completed k r = same-turn _ _ (ap (releasedWarps (freedBy r)) no-warp) refl
 
   pub made-waits : (w k : ℕ) (r : Barrier) → made b (goingOn w (Waiting k) k r) ≡ goesOn b k r w true
   made-waits w k r = same-turn _ _ (none-released (withStatus (b .rows) w (Waiting k))) refl

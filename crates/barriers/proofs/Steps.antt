@@ -1,4 +1,4 @@
--- Laws of the steps: which line refuses one, and who is freed.
+-- Laws of the steps: which line refuses one.
 -- Assumes nothing.
 use mathlib.Core.Path.{_≡_, refl}
 use mathlib.Core.Bool.{Bool, true, false, not, cond}
@@ -7,10 +7,9 @@ use lib.Dec.{eqb, leb}
 use borrow.Author.Tests.{ne-eqb, le-leb, lt-leb}
 use Rattle.folds.specs.Folds.{lowest}
 use Rattle.sets.specs.Sets.{has}
-use Rattle.block.specs.Tables.{barrierCount, isIdle, isReduction, isReady, warpAt}
+use Rattle.block.specs.Tables.{barrierCount, isIdle, isReady, warpAt}
 use Rattle.barrier_row.specs.Rows.{badCount, differs}
-use Rattle.barriers.specs.Steps.{noSuchBarrier, warpLine, warpRefusal, arrivalLine, callRefusal, freedWarp}
-use Rattle.block.specs.declared.Status.the-variants.{Ready}
+use Rattle.barriers.specs.Steps.{noSuchBarrier, warpLine, warpRefusal, arrivalLine, callRefusal}
 use Rattle.block.specs.declared.Warp.{Warp}
 use Rattle.block.specs.declared.Barrier.{Barrier}
 use Rattle.block.specs.declared.Block.{Block}
@@ -87,16 +86,3 @@ module _ (n : ℕ) (x : Warp) (r : Barrier) (w k : ℕ) (c : Call) where
 
       pub call-line : k < barrierCount → callRefusal n r w c ≡ arrivalLine n x r w k c
       call-line h = rw (arrival-lines, ← said, ready, lt-leb barrierCount k h)
-
--- ---- a warp where a barrier completed
-
-module _ (r : Barrier) (value w : ℕ) (x : Warp) where
-  pub not-freed : has (r .waiting) w ≡ false → x ≡ freedWarp r value w x
-  not-freed e = rw e
-
-  module _ (waited : has (r .waiting) w ≡ true) where
-    pub freed-of-red : isReduction (r .form) ≡ true → record { status = Ready; result = value } ≡ freedWarp r value w x
-    freed-of-red e = rw (waited, e)
-
-    pub freed-of-sync : isReduction (r .form) ≡ false → record { status = Ready; result = x .result } ≡ freedWarp r value w x
-    freed-of-sync e = rw (waited, e)

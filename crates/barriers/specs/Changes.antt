@@ -18,9 +18,10 @@ use Rattle.block.specs.declared.Block.{Block}
 use Rattle.block.specs.declared.Call.{Call}
 use Rattle.block.specs.declared.Verdict.the-variants.{Refused, Accepted}
 use Rattle.block.specs.declared.Turn.{Turn}
+use Rattle.barriers.specs.declared.Freed.{Freed}
 use Rattle.barriers.specs.declared.Change.{Change}
 use Rattle.barriers.specs.declared.Moved.{Moved}
-use Rattle.barriers.specs.Steps.{warpLine, arrivalLine, releasedWarps, arrival, exit}
+use Rattle.barriers.specs.Steps.{warpLine, arrivalLine, releasedWarps, freedBy, arrival, exit}
 
 -- the warp rows with another status at w; past the last there is none to change
 abbrev pub withStatus : List Warp → ℕ → Status → List Warp
@@ -30,7 +31,7 @@ withStatus ws w s = set ws w (record { status = s; result = getD ws w freshWarp 
 abbrev pub withBarrier : Block → ℕ → Barrier → Block
 withBarrier b k r = record { warps = b .warps; rows = b .rows; barriers = set (b .barriers) k r }
 
--- the block with a change made: a warp has another status and a barrier another row, and then the waiting warps of a row are released
+-- the block with a change made: a warp has another status and a barrier another row, and then warps are released
 abbrev pub changed : Block → Change → Block
 changed b c = record {
   warps = b .warps;
@@ -38,9 +39,13 @@ changed b c = record {
   barriers = set (b .barriers) (c .barrier) (c .row);
 }
 
--- no warp, no barrier, and a row where none waits
+-- a release of nobody
+abbrev pub noneFreed : Freed
+noneFreed = record { set = 0; gives = false; result = 0 }
+
+-- no warp, no barrier, and nobody released
 abbrev pub noChange : Change
-noChange = record { warp = mostWarps; status = Ready; barrier = barrierCount; row = idle; freed = idle }
+noChange = record { warp = mostWarps; status = Ready; barrier = barrierCount; row = idle; freed = noneFreed }
 
 -- the turn of a step that makes a change
 abbrev pub made : Block → Moved → Turn
@@ -54,13 +59,13 @@ refusing n = record { verdict = Refused n; change = noChange }
 
 -- a step that completes nothing
 abbrev pub goingOn : ℕ → Status → ℕ → Barrier → Moved
-goingOn w s k r = record { verdict = Accepted 0 false 0; change = record { warp = w; status = s; barrier = k; row = r; freed = idle } }
+goingOn w s k r = record { verdict = Accepted 0 false 0; change = record { warp = w; status = s; barrier = k; row = r; freed = noneFreed } }
 
 -- a step that completes barrier k with row r
 abbrev pub completing : ℕ → Status → ℕ → Barrier → Moved
 completing w s k r = record {
   verdict = Accepted (resultOf r) true (r .waiting);
-  change = record { warp = w; status = s; barrier = k; row = idle; freed = r };
+  change = record { warp = w; status = s; barrier = k; row = idle; freed = freedBy r };
 }
 
 -- ---- an arrival, by the rows that it looks at

@@ -8,7 +8,7 @@ use lib.ListN.{set}
 use Rattle.folds.specs.Folds.{first, every, lowest, firsts}
 use Rattle.sets.specs.Sets.{has, part}
 use Rattle.block.specs.Tables.{mostWarps, barrierCount, idle, warpAt, barrierAt, isIdle, isReduction, isReady, liveOf}
-use Rattle.barrier_row.specs.Rows.{badCount, differs, arrivedRow, completes, resultOf, releasedWarp}
+use Rattle.barrier_row.specs.Rows.{badCount, differs, arrivedRow, completes, resultOf}
 use Rattle.block.specs.declared.Status.the-variants.{Ready, Waiting, Exited}
 use Rattle.block.specs.declared.Warp.{Warp}
 use Rattle.block.specs.declared.Barrier.{Barrier}
@@ -17,6 +17,7 @@ use Rattle.block.specs.declared.Threads.{Threads}
 use Rattle.block.specs.declared.Call.{Call}
 use Rattle.block.specs.declared.Verdict.the-variants.{Refused, Accepted}
 use Rattle.block.specs.declared.Turn.{Turn}
+use Rattle.barriers.specs.declared.Freed.{Freed}
 
 -- ---- refusals
 
@@ -87,19 +88,23 @@ callRefusal warps r w c =
 
 -- ---- an arrival
 
--- the row of warp w after a barrier of row r has completed with this result: if it waited there it is ready, and of a red it gets the result
-abbrev pub freedWarp : Barrier → ℕ → ℕ → Warp → Warp
-freedWarp r value w x = cond (has (r .waiting) w) (record { status = Ready; result = cond (isReduction (r .form)) value (x .result) }) x
+-- the row of warp w after a release: a released warp is ready, and gets the result if one is given
+abbrev pub releasedWarp : Freed → ℕ → Warp → Warp
+releasedWarp f w x = cond (has (f .set) w) (record { status = Ready; result = cond (f .gives) (f .result) (x .result) }) x
 
--- the warp rows with the waiting warps released
-abbrev pub releasedWarps : Barrier → List Warp → List Warp
-releasedWarps r ws = firsts mostWarps 0 (λ w x. cond (has (r .waiting) w) (releasedWarp r x) x) ws
+-- the warp rows after a release
+abbrev pub releasedWarps : Freed → List Warp → List Warp
+releasedWarps f ws = firsts mostWarps 0 (releasedWarp f) ws
+
+-- a completed barrier of row r releases its waiting warps; each of a red gets the result
+abbrev pub freedBy : Barrier → Freed
+freedBy r = record { set = r .waiting; gives = isReduction (r .form); result = resultOf r }
 
 -- barrier k completes with row r: the row becomes idle and the waiting warps are released
 abbrev pub completed : Block → ℕ → Barrier → Turn
 completed b k r = record {
   verdict = Accepted (resultOf r) true (r .waiting);
-  block = record { warps = b .warps; rows = releasedWarps r (b .rows); barriers = set (b .barriers) k idle };
+  block = record { warps = b .warps; rows = releasedWarps (freedBy r) (b .rows); barriers = set (b .barriers) k idle };
 }
 
 -- barrier k goes on with row r, and warp w waits there if its step waits

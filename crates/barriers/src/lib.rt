@@ -1,4 +1,4 @@
-// What a step changes in the block, and what every arrival and exit is made of: lines 4 and 5, the ways a step ends, and who is freed.
+// What a step changes in the block, and what every arrival and exit is made of: lines 4 and 5, and the ways a step ends.
 use block::BARRIER_COUNT;
 use block::Barrier;
 use block::MOST_WARPS;
@@ -6,16 +6,23 @@ use block::Status;
 use block::Verdict;
 use block::Warp;
 ghost use mathlib.Core.Path.{_≡_};
-ghost use Rattle.barriers.specs.Steps.{warpLine, freedWarp};
-ghost use Rattle.barriers.specs.Changes.{noChange, refusing, goingOn, completing};
+ghost use Rattle.barriers.specs.Steps.{warpLine};
+ghost use Rattle.barriers.specs.Changes.{noneFreed, noChange, refusing, goingOn, completing};
 
-// What a step changes in the block: the status of a warp, the row of a barrier, and the row whose waiting warps are released. Warp 32, barrier 16 and an idle row stand for none.
+// A release: the set of warps that it makes ready, and the result that they get if it gives one.
+pub struct Freed {
+    pub set: u32,
+    pub gives: bool,
+    pub result: u32,
+}
+
+// What a step changes in the block: the status of a warp, the row of a barrier, and who is released. Warp 32, barrier 16 and an empty set stand for none.
 pub struct Change {
     pub warp: usize,
     pub status: Status,
     pub barrier: usize,
     pub row: Barrier,
-    pub freed: Barrier,
+    pub freed: Freed,
 }
 
 // A verdict, and what the step changes in the block.
@@ -37,17 +44,29 @@ pub fn warp_refusal(warps: u8, row: Warp, w: u8) -> u8
     0
 }
 
+// A release of nobody.
+fn none_freed() -> Freed
+    ensures { λ r. ⌜ r ≡ noneFreed ⌝ }
+{
+    Freed {
+        set: 0,
+        gives: false,
+        result: 0,
+    }
+}
+
 // No change.
 pub fn no_change() -> Change
     ensures { λ r. ⌜ r ≡ noChange ⌝ }
 {
-    let idle = block::idle_row();
+    let row = block::idle_row();
+    let freed = none_freed();
     Change {
         warp: MOST_WARPS as usize,
         status: Status::Ready,
         barrier: BARRIER_COUNT as usize,
-        row: idle,
-        freed: idle,
+        row,
+        freed,
     }
 }
 
@@ -65,7 +84,7 @@ pub fn refuse(n: u8) -> Moved
 pub fn go_on(warp: usize, status: Status, barrier: usize, row: Barrier) -> Moved
     ensures { λ r. ⌜ r ≡ goingOn warp status barrier row ⌝ }
 {
-    let freed = block::idle_row();
+    let freed = none_freed();
     Moved {
         verdict: Verdict::Accepted {
             value: 0,
@@ -86,11 +105,13 @@ pub fn go_on(warp: usize, status: Status, barrier: usize, row: Barrier) -> Moved
 pub fn complete(warp: usize, status: Status, barrier: usize, r: Barrier) -> Moved
     ensures { λ m. ⌜ m ≡ completing warp status barrier r ⌝ }
 {
-    let value = barrier_row::result_of(r);
+    let f = r.form;
+    let gives = 1 < block::form_number(f);
+    let result = barrier_row::result_of(r);
     let row = block::idle_row();
     Moved {
         verdict: Verdict::Accepted {
-            value: value as u64,
+            value: result as u64,
             done: true,
             released: r.waiting,
         },
@@ -99,27 +120,11 @@ pub fn complete(warp: usize, status: Status, barrier: usize, r: Barrier) -> Move
             status,
             barrier,
             row,
-            freed: r,
+            freed: Freed {
+                set: r.waiting,
+                gives,
+                result,
+            },
         },
-    }
-}
-
-// The row of warp w after a barrier of row r has completed and this is its result.
-pub fn freed(r: Barrier, value: u32, w: u8, row: Warp) -> Warp
-    ensures { λ t. ⌜ t ≡ freedWarp r value w row ⌝ }
-{
-    if !sets::has(r.waiting, w) {
-        return row;
-    }
-    let f = r.form;
-    if 1 < block::form_number(f) {
-        return Warp {
-            status: Status::Ready,
-            result: value,
-        };
-    }
-    Warp {
-        status: Status::Ready,
-        result: row.result,
     }
 }

@@ -13,9 +13,9 @@ use lib.Seq.{getD-set-same, getD-set-other}
 use borrow.Author.Tests.{ne-eqb, eqb-true, lt-ltb}
 use Rattle.sets.specs.Sets.{has}
 use Rattle.sets.proofs.Sets.{has-none, has-below, setOf-cong}
-use Rattle.block.specs.Tables.{mostWarps, barrierCount, freshWarp, idle, warpAt, barrierAt, isReady, isExited, waitsAt, liveOf, warpSound, soundBlock}
-use Rattle.barrier_row.specs.Rows.{releasedWarp}
-use Rattle.barriers.specs.Steps.{releasedWarps, completed}
+use Rattle.block.specs.Tables.{mostWarps, barrierCount, freshWarp, idle, warpAt, barrierAt, isReduction, isReady, isExited, waitsAt, liveOf, warpSound, soundBlock}
+use Rattle.barrier_row.specs.Rows.{resultOf}
+use Rattle.barriers.specs.Steps.{releasedWarp, releasedWarps, freedBy, completed}
 use Rattle.block.specs.declared.Status.{Status}
 use Rattle.block.specs.declared.Status.the-variants.{Ready, Waiting, Exited}
 use Rattle.block.specs.declared.Warp.{Warp}
@@ -80,6 +80,10 @@ module _ (b : Block) (k : ℕ) (r : Barrier) (ws : List Warp) (shape : Shaped b)
 
 -- ---- a barrier completes
 
+-- the row of a warp that it releases
+abbrev freed : Barrier → Warp → Warp
+freed r x = record { status = Ready; result = cond (isReduction (r .form)) (resultOf r) (x .result) }
+
 -- a warp that is ready or waits at barrier k has not exited, and waits nowhere else
 free-exited : (s : Status) (k : ℕ) → isReady s || waitsAt s k ≡ true → isExited s ≡ false
 free-exited Ready k e = refl
@@ -96,12 +100,12 @@ pub completed-live : (b : Block) (k : ℕ) (r : Barrier)
     → ((v : ℕ) → v < mostWarps → has (r .waiting) v ≡ true → isReady (warpAt b v .status) || waitsAt (warpAt b v .status) k ≡ true)
     → liveOf (completed b k r .block) ≡ liveOf b
 completed-live b k r frees =
-    same-live b (releasedWarps r (b .rows))
+    same-live b (releasedWarps (freedBy r) (b .rows))
     (λ v h. firsts-either (λ (x : Warp). isExited (x .status) ≡ isExited (warpAt b v .status)) _ (b .rows) mostWarps 0 v freshWarp refl
     (rw zero-add (go v h (has (r .waiting) v) refl)))
   where
     go : (v : ℕ) → v < mostWarps → (t : Bool) → has (r .waiting) v ≡ t
-        → isExited (cond t (releasedWarp r (warpAt b v)) (warpAt b v) .status) ≡ isExited (warpAt b v .status)
+        → isExited (cond t (freed r (warpAt b v)) (warpAt b v) .status) ≡ isExited (warpAt b v .status)
     go v h true e = sym (free-exited (warpAt b v .status) k (frees v h e))
     go v h false e = refl
 
@@ -127,18 +131,17 @@ idle-row n = record {
 
 -- the row of warp v, released or not
 pub released-at : (b : Block) (r : Barrier) (v : ℕ) → Shaped b → v < mostWarps
-    → getD (releasedWarps r (b .rows)) v freshWarp ≡ cond (has (r .waiting) v) (releasedWarp r (warpAt b v)) (warpAt b v)
-released-at b r v shape h =
-    getD-firsts (λ w x. cond (has (r .waiting) w) (releasedWarp r x) x) (b .rows) mostWarps 0 v freshWarp h (rw (shape .rows) h) ∙ rw zero-add
+    → getD (releasedWarps (freedBy r) (b .rows)) v freshWarp ≡ releasedWarp (freedBy r) v (warpAt b v)
+released-at b r v shape h = getD-firsts (releasedWarp (freedBy r)) (b .rows) mostWarps 0 v freshWarp h (rw (shape .rows) h) ∙ rw zero-add
 
 module _ (b : Block) (k : ℕ) (r : Barrier) (shape : Shaped b) (k16 : k < barrierCount) (s : SoundBut b k)
     (inside : r .waiting < 2 ^ b .warps)
     (frees : (v : ℕ) → v < mostWarps → has (r .waiting) v ≡ true → isReady (warpAt b v .status) || waitsAt (warpAt b v .status) k ≡ true)
     (all : (v : ℕ) → v < mostWarps → waitsAt (warpAt b v .status) k ≡ true → has (r .waiting) v ≡ true) where
-  moves : (v : ℕ) → v < mostWarps → Moves b k v (getD (releasedWarps r (b .rows)) v freshWarp)
+  moves : (v : ℕ) → v < mostWarps → Moves b k v (getD (releasedWarps (freedBy r) (b .rows)) v freshWarp)
   moves v h = rw (released-at b r v shape h) (go (has (r .waiting) v) refl)
     where
-      go : (t : Bool) → has (r .waiting) v ≡ t → Moves b k v (cond t (releasedWarp r (warpAt b v)) (warpAt b v))
+      go : (t : Bool) → has (r .waiting) v ≡ t → Moves b k v (cond t (freed r (warpAt b v)) (warpAt b v))
       go true e =
           let f = frees v h e in
           let n : v < b .warps = has-below (b .warps) (r .waiting) v inside e in
@@ -149,13 +152,13 @@ module _ (b : Block) (k : ℕ) (r : Barrier) (shape : Shaped b) (k16 : k < barri
           }
       go false e = stays b k v s h
 
-  here : (v : ℕ) → v < mostWarps → has (idle .waiting) v ≡ waitsAt (getD (releasedWarps r (b .rows)) v freshWarp .status) k
+  here : (v : ℕ) → v < mostWarps → has (idle .waiting) v ≡ waitsAt (getD (releasedWarps (freedBy r) (b .rows)) v freshWarp .status) k
   here v h = has-none v ∙ rw (released-at b r v shape h) (go (has (r .waiting) v) refl)
     where
-      go : (t : Bool) → has (r .waiting) v ≡ t → false ≡ waitsAt (cond t (releasedWarp r (warpAt b v)) (warpAt b v) .status) k
+      go : (t : Bool) → has (r .waiting) v ≡ t → false ≡ waitsAt (cond t (freed r (warpAt b v)) (warpAt b v) .status) k
       go true e = refl
       go false e = sym (untrue _ (λ q. false≢true (sym e ∙ all v h q)))
 
   pub completed-keeps : soundBlock (completed b k r .block) ≡ true
   completed-keeps =
-      changed b k idle (releasedWarps r (b .rows)) shape k16 s (idle-row (b .warps)) (λ h. absurd (false≢true (sym h))) moves here
+      changed b k idle (releasedWarps (freedBy r) (b .rows)) shape k16 s (idle-row (b .warps)) (λ h. absurd (false≢true (sym h))) moves here

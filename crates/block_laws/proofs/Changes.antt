@@ -14,9 +14,9 @@ use Rattle.folds.proofs.Folds.{every-at}
 use Rattle.sets.specs.Sets.{has, less}
 use Rattle.sets.proofs.Sets.{has-less, less-lt, setOf-lt, ext}
 use Rattle.block.specs.Tables.{mostWarps, barrierCount, freshWarp, idle, warpAt, barrierAt, isExited, liveOf, soundBlock}
-use Rattle.barrier_row.specs.Rows.{arrivedRow, resultOf, releasedWarp}
+use Rattle.barrier_row.specs.Rows.{arrivedRow, resultOf}
 use Rattle.barriers.proofs.Changes.{live-other, live-own}
-use Rattle.barriers.specs.Steps.{completed, goesOn, arrival, without, opens, opened, exit}
+use Rattle.barriers.specs.Steps.{releasedWarp, freedBy, completed, goesOn, arrival, without, opens, opened, exit}
 use Rattle.block.specs.declared.Status.the-variants.{Ready, Waiting}
 use Rattle.block.specs.declared.Warp.{Warp}
 use Rattle.block.specs.declared.Barrier.{Barrier}
@@ -124,7 +124,7 @@ counted-survive b w k counted =
 unreleased : (b : Block) (k v : ℕ) (r : Barrier) → LeavesWarp b v (completed b k r)
 unreleased b k v r value released done e h =
     let q : r .waiting ≡ released = cc in
-    firsts-leaves (λ w x. cond (has (r .waiting) w) (releasedWarp r x) x) (b .rows) mostWarps 0 v freshWarp (λ x. rw (zero-add, q, h))
+    firsts-leaves (releasedWarp (freedBy r)) (b .rows) mostWarps 0 v freshWarp (λ x. rw (zero-add, q, h))
 
 -- an arrival that goes on leaves the other warps, and its own where it does not wait
 waits-leaves : (b : Block) (w v : ℕ) (x : Warp) (t : Bool) → (v ≡ w → t ≡ false)

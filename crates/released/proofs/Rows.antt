@@ -1,4 +1,4 @@
--- Laws of a list whose first places are changed one after another, and of the warp rows that a barrier releases so.
+-- Laws of a list whose first places are changed one after another, and of the warp rows that are released so.
 -- Assumes nothing.
 use mathlib.Core.Path.{_≡_, refl, sym, ap, ap₂, _∙_}
 use mathlib.Core.Bool.{Bool, cond}
@@ -13,9 +13,8 @@ use Rattle.folds.proofs.Folds.{firsts-more}
 use Rattle.sets.specs.Sets.{has}
 use Rattle.sets.proofs.Sets.{has-none}
 use Rattle.block.specs.declared.Warp.{Warp}
-use Rattle.block.specs.declared.Barrier.{Barrier}
-use Rattle.barrier_row.specs.Rows.{resultOf, releasedWarp}
-use Rattle.barriers.specs.Steps.{freedWarp, releasedWarps}
+use Rattle.barriers.specs.declared.Freed.{Freed}
+use Rattle.barriers.specs.Steps.{releasedWarp, releasedWarps}
 
 -- ---- the first places of a list
 
@@ -63,22 +62,20 @@ firsts-all f (x ∷ l) zero i m e = firsts-same (below m f) (x ∷ l) (suc (leng
 firsts-all {A} f (x ∷ l) (suc n) i m e =
     ap₂ (λ (y : A) (t : List A). y ∷ t) (rw (lt-ltb i m (omega arith))) (firsts-all f l n (suc i) m (omega arith))
 
--- ---- the rows that a barrier releases
+-- ---- the rows of a release
 
--- the row at i after a barrier of row r has completed; rows past the last warp stay
-abbrev pub freedRow : Barrier → ℕ → Warp → Warp
-freedRow r i x = cond (ltb i 32) (freedWarp r (resultOf r) i x) x
+-- the row at i after a release; rows past the last warp stay
+abbrev pub releasedRow : Freed → ℕ → Warp → Warp
+releasedRow f i x = cond (ltb i 32) (releasedWarp f i x) x
 
--- the warp rows with the waiting warps of r among the first n released
-abbrev pub freedTo : Barrier → List Warp → ℕ → List Warp
-freedTo r ws n = firsts n 0 (freedRow r) ws
+-- the warp rows with those among the first n released
+abbrev pub releasedTo : Freed → List Warp → ℕ → List Warp
+releasedTo f ws n = firsts n 0 (releasedRow f) ws
 
--- where all rows were looked at, the waiting warps are released
-pub freed-all : (r : Barrier) (ws : List Warp) → freedTo r ws (length ws) ≡ releasedWarps r ws
-freed-all r ws = firsts-all (λ w x. cond (has (r .waiting) w) (releasedWarp r x) x) ws 32 0 32 refl
+-- where all rows were looked at, the set is released
+pub released-all : (f : Freed) (ws : List Warp) → releasedTo f ws (length ws) ≡ releasedWarps f ws
+released-all f ws = firsts-all (releasedWarp f) ws 32 0 32 refl
 
--- and where none waits, the rows stay
-pub none-freed : (r : Barrier) (ws : List Warp) → r .waiting ≡ 0 → ws ≡ releasedWarps r ws
-none-freed r ws e =
-    sym (firsts-same (λ w x. cond (has (r .waiting) w) (releasedWarp r x) x) ws 32 0
-    (λ k x le. ap (λ (t : Bool). cond t (releasedWarp r x) x) (ap (λ (s : ℕ). has s k) e ∙ has-none k)))
+-- and where it is empty, the rows stay
+pub none-released : (f : Freed) (ws : List Warp) → f .set ≡ 0 → ws ≡ releasedWarps f ws
+none-released f ws e = sym (firsts-same (releasedWarp f) ws 32 0 (λ k x le. rw (e, has-none k)))

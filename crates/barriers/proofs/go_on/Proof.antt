@@ -2,11 +2,11 @@ use borrow.Author.Needs.{needs}
 use Rattle.barriers.proofs.go_on.Statement.{statement}
 use Rattle.barriers.proofs.go_on.Tie as tie
 
-idle-row-requires : tie.Need-idle-row-requires
-idle-row-requires c κs = search needs
+none-freed-requires : tie.Need-none-freed-requires
+none-freed-requires c κs = search needs
 
 returns : tie.Need-returns
-returns c = rw (c .idle-row .ensures)
+returns c = rw (c .none-freed .ensures)
 
 pub go-on-spec : {M : Type 1} → statement M
-go-on-spec = tie.close (tie.spec idle-row-requires returns)
+go-on-spec = tie.close (tie.spec none-freed-requires returns)

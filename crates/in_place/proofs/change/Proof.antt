@@ -55,6 +55,8 @@ use Rattle.block.proofs.Block.Laws as B′
 use Rattle.barriers.specs.declared.Change.{Change}
 use Rattle.barriers.specs.Steps.{releasedWarps}
 use Rattle.barriers.specs.Changes.{withStatus}
+use Rattle.barriers.proofs.Freed as F
+use Rattle.barriers.proofs.Freed.Laws as F′
 use Rattle.barriers.proofs.Change as N
 use Rattle.barriers.proofs.Change.Laws as N′
 use Rattle.walks.proofs.Walk.{gone1, concluded, over}
@@ -174,12 +176,12 @@ module _ {M : Type 1} (𝓤 : URA M) (H : Heap 𝓤) (A : Atoms 𝓤) (W : Given
         (λ α δ a w eq. (refl, array-lent-back 𝓤 H A W U.the-row tt 32 rows-room b (o + 4) (d .rows) ws α δ w eq))
         (λ _ _. and-then ! (load ! (from ! (stop !)) (look ! 12 refl)) (and-then ! (load ! (from ! (fld ! refl (stop !))) (look-in ! 22 (sub ! 0 refl (whole !)))) (and-then ! (load ! (from ! (fld ! refl (stop !))) (look-in ! 22 (sub ! 1 refl (whole !)))) (no-more !)))) (λ _.
         use2 W (‵ (partAt B.the-row fullShare d₂ b o)) (rows-in 𝓤 H A W d₁ b o ws) $ land ! (from ! (stop !)) (store ! 18 refl (tt, tt)) $
-        -- the waiting warps are released
+        -- warps are released
         assigns ! (addr ! (from ! (hop ! (look ! 22 refl) (fld ! rows-at (stop !))))) (from ! (stop !)) (init ! 8 refl (tt, tt)) $
         assigns ! (agg ! (and-then ! (load ! (from ! (stop !)) (look ! 8 refl)) (and-then ! (lit ! tt) (no-more !)))) (from ! (stop !)) (init ! 6 refl (tt, (tt, (record { fits = lit< tt }, tt)))) $
         use1 W (‵ (partAt Rows fullShare ws b (o + 4)) ⊛ rows-kept 𝓤 H A d₂ b o) (rows-out 𝓤 H A W d₂ b o) $ split ! $
-        calls-lending ! fm (mutSliceOf (0 ∷ []) tt (plain (λ _. U.the-row))) (plain (λ _. R.the-row) ∷ []) Nothing yes (yes, tt) (release.clauses 𝓤 H A at-mem run) (known .release) (λ _. (LL.makes R.the-type R′.the-plain 𝓤 H A, tt)) (λ _. vunit) nothing-tells
-        (partAt Rows fullShare ws′ b (o + 4)) (array-lent 𝓤 H A W U.the-row tt 32 rows-room b (o + 4) ws) (λ _. (c .freed, tt)) (λ _. (LL.vals R.the-type R′.the-laws (c .freed), tt)) (λ _. (is-freed, tt)) (λ _ _. tt) (λ _ _. id⊢ 𝓤 _) tt (λ _ _ _ w. w ≡ ws′) (λ _ _ a _. id⊢ 𝓤 _)
+        calls-lending ! fm (mutSliceOf (0 ∷ []) tt (plain (λ _. U.the-row))) (plain (λ _. F.the-row) ∷ []) Nothing yes (yes, tt) (release.clauses 𝓤 H A at-mem run) (known .release) (λ _. (LL.makes F.the-type F′.the-plain 𝓤 H A, tt)) (λ _. vunit) nothing-tells
+        (partAt Rows fullShare ws′ b (o + 4)) (array-lent 𝓤 H A W U.the-row tt 32 rows-room b (o + 4) ws) (λ _. (c .freed, tt)) (λ _. (LL.vals F.the-type F′.the-laws (c .freed), tt)) (λ _. (is-freed, tt)) (λ _ _. tt) (λ _ _. id⊢ 𝓤 _) tt (λ _ _ _ w. w ≡ ws′) (λ _ _ a _. id⊢ 𝓤 _)
         (λ α δ a w eq. (refl, array-lent-back 𝓤 H A W U.the-row tt 32 rows-room b (o + 4) ws ws′ α δ w eq))
         (λ _ _. and-then ! (load ! (from ! (stop !)) (look ! 8 refl)) (and-then ! (load ! (from ! (fld ! refl (stop !))) (look-in ! 22 (sub ! 4 refl (whole !)))) (no-more !))) (λ _.
         use2 W (‵ (partAt B.the-row fullShare d′ b o)) (rows-in 𝓤 H A W d₂ b o ws′) $ land ! (from ! (stop !)) (store ! 18 refl (tt, tt)) $
@@ -200,7 +202,7 @@ module _ {M : Type 1} (𝓤 : URA M) (H : Heap 𝓤) (A : Atoms 𝓤) (W : Given
         is-row : Is R.the-row (c .row) (LL.vals R.the-type R′.the-laws (c .row))
         is-row = LL.owed N.the-type N′.the-laws c _ is-c .1 .1 .1 .0
 
-        is-freed : Is R.the-row (c .freed) (LL.vals R.the-type R′.the-laws (c .freed))
+        is-freed : Is F.the-row (c .freed) (LL.vals F.the-type F′.the-laws (c .freed))
         is-freed = LL.owed N.the-type N′.the-laws c _ is-c .1 .1 .1 .1 .0
 
 module _ {M : Type 1} (𝓤 : URA M) (H : Heap 𝓤) (A : Atoms 𝓤) (W : Given 𝓤 H A) (mem : Memory → SProp 𝓤) (run : Routine → Fun 𝓤) (𝓣 : Tables 𝓤 H) where

@@ -290,20 +290,20 @@ module _ {M : Type 1} (𝓤 : URA M) (H : Heap 𝓤) (A : Atoms 𝓤) (W : Given
       move ! (1 ∷ 2 ∷ []) $ feqI ! (List Val) (vptr b o ∷ []) (vptr b o ∷ []) refl $ fjoin3 ! $ fjoin ! $ frame ! $ owned ! G.the-row (Is G.the-row) (LL.makes G.the-type G′.the-plain 𝓤 H A) g _ is $ done !
 
   module _ (C : Calls 𝓤 H) (Λ : Loops 𝓤 H) (fm : FmC 𝓤 H (W .laws) C) (known : Known 𝓤 H A at-mem run C) where
-    -- after the decision: what no later statement reads is left aside
-    module _ (l₀ l₁ l₂ l₃ l₄ l₅ l₆ l₇ l₈ l₉ l₁₀ l₁₁ l₁₂ l₁₃ l₁₄ l₁₅ l₁₆ l₁₇ : ℕ) (u : Decided) (decided : u ≡ decidedOn v e s) (is-u : Is U.the-row u (LL.vals U.the-type U′.the-laws u)) (is-i : Is usize i (vint w64 i ∷ [])) where
+    -- from the decision on: what no later statement reads is left aside
+    module _ (l₀ l₁ l₂ l₃ l₄ l₅ l₆ l₇ l₈ l₉ l₁₀ l₁₁ l₁₂ l₁₃ l₁₄ l₁₅ l₁₆ l₁₇ : ℕ) (is-i : Is usize i (vint w64 i ∷ [])) where
       abbrev En : Env 𝓤 H
       En = (G′.mir, l₀) ∷ (ref-block, l₁) ∷ (ref-rows, l₂) ∷ (ref-tally, l₃) ∷ (K′.mir, l₄) ∷ (S′.mir, l₅) ∷ (tyInt w64, l₆) ∷ (O′.mir, l₇) ∷ (X′.mir, l₈) ∷ (U′.mir, l₉) ∷ (see-row, l₁₀) ∷ (see-rows, l₁₁) ∷ (to-block, l₁₂) ∷ (tyUnit, l₁₃) ∷ (to-row, l₁₄) ∷ (to-rows, l₁₅) ∷ (to-tally, l₁₆) ∷ (to-block, l₁₇) ∷ []
 
-      abbrev Decided-on : List (Item 𝓤)
-      Decided-on = ‵ (row O.the-row fullShare ys b′ o′) ∷ ‵ (partAt B.the-row fullShare d b o) ∷ ‵ (partAt T.the-row fullShare h b″ o″)
+      abbrev On : Item 𝓤 → List (Item 𝓤)
+      On decision = ‵ (row O.the-row fullShare ys b′ o′) ∷ ‵ (partAt B.the-row fullShare d b o) ∷ ‵ (partAt T.the-row fullShare h b″ o″)
           ∷ ‵ (fobor κ″ q″ (Body (mem T.the-row) b″ o″ γ″)) ∷ ‵ (fobs γ″ (T.the-row .coded .code h)) ∷ ‵ (fauth γ″ (T.the-row .coded .code h))
           ∷ ‵ (fobor κ′ q′ (Held O.the-row (length ys) b′ o′ γ′)) ∷ ‵ (fobs γ′ (codedHoleys O.the-row .code (heres O.the-row ys))) ∷ ‵ (fauth γ′ (codedHoleys O.the-row .code (heres O.the-row ys)))
           ∷ ‵ (fobor κ q (Body (mem B.the-row) b o γ)) ∷ ‵ (fobs γ (B.the-row .coded .code d)) ∷ ‵ (fauth γ (B.the-row .coded .code d))
-          ∷ ‵ (froom G′.mir l₀ 0) ∷ ‵ (fdies G′.mir l₀) ∷ ‵ (fat fullShare (ref-block) l₁ 0 (vptr b o)) ∷ ‵ (fdies (ref-block) l₁) ∷ ‵ (fat fullShare (ref-rows) l₂ 0 (sliceVal (b′, o′) (length ys))) ∷ ‵ (fdies (ref-rows) l₂) ∷ ‵ (fat fullShare (ref-tally) l₃ 0 (vptr b″ o″)) ∷ ‵ (fdies (ref-tally) l₃) ∷ ‵ (fat fullShare (K′.mir) l₄ 0 (vc)) ∷ ‵ (fdies (K′.mir) l₄) ∷ ‵ (fat fullShare (S′.mir) l₅ 0 (vs)) ∷ ‵ (fdies (S′.mir) l₅) ∷ ‵ (fat fullShare (tyInt w64) l₆ 0 (vint w64 i)) ∷ ‵ (fdies (tyInt w64) l₆) ∷ ‵ (fat fullShare (O′.mir) l₇ 0 (mach-row e)) ∷ ‵ (fdies (O′.mir) l₇) ∷ ‵ (fat fullShare (X′.mir) l₈ 0 (mach-seen v)) ∷ ‵ (fdies (X′.mir) l₈) ∷ ‵ (fat fullShare (U′.mir) l₉ 0 (LL.val U.the-type U′.the-laws u)) ∷ ‵ (fdies (U′.mir) l₉) ∷ ‵ (froom (see-row) l₁₀ 0) ∷ ‵ (fdies (see-row) l₁₀) ∷ ‵ (froom (see-rows) l₁₁ 0) ∷ ‵ (fdies (see-rows) l₁₁) ∷ ‵ (froom (to-block) l₁₂ 0) ∷ ‵ (fdies (to-block) l₁₂) ∷ ‵ (froom (tyUnit) l₁₃ 0) ∷ ‵ (fdies (tyUnit) l₁₃) ∷ ‵ (froom (to-row) l₁₄ 0) ∷ ‵ (fdies (to-row) l₁₄) ∷ ‵ (froom (to-rows) l₁₅ 0) ∷ ‵ (fdies (to-rows) l₁₅) ∷ ‵ (froom (to-tally) l₁₆ 0) ∷ ‵ (fdies (to-tally) l₁₆) ∷ ‵ (froom (to-block) l₁₇ 0) ∷ ‵ (fdies (to-block) l₁₇) ∷ []
+          ∷ ‵ (froom G′.mir l₀ 0) ∷ ‵ (fdies G′.mir l₀) ∷ ‵ (fat fullShare (ref-block) l₁ 0 (vptr b o)) ∷ ‵ (fdies (ref-block) l₁) ∷ ‵ (fat fullShare (ref-rows) l₂ 0 (sliceVal (b′, o′) (length ys))) ∷ ‵ (fdies (ref-rows) l₂) ∷ ‵ (fat fullShare (ref-tally) l₃ 0 (vptr b″ o″)) ∷ ‵ (fdies (ref-tally) l₃) ∷ ‵ (fat fullShare (K′.mir) l₄ 0 (vc)) ∷ ‵ (fdies (K′.mir) l₄) ∷ ‵ (fat fullShare (S′.mir) l₅ 0 (vs)) ∷ ‵ (fdies (S′.mir) l₅) ∷ ‵ (fat fullShare (tyInt w64) l₆ 0 (vint w64 i)) ∷ ‵ (fdies (tyInt w64) l₆) ∷ ‵ (fat fullShare (O′.mir) l₇ 0 (mach-row e)) ∷ ‵ (fdies (O′.mir) l₇) ∷ ‵ (fat fullShare (X′.mir) l₈ 0 (mach-seen v)) ∷ ‵ (fdies (X′.mir) l₈) ∷ decision ∷ ‵ (fdies (U′.mir) l₉) ∷ ‵ (froom (see-row) l₁₀ 0) ∷ ‵ (fdies (see-row) l₁₀) ∷ ‵ (froom (see-rows) l₁₁ 0) ∷ ‵ (fdies (see-rows) l₁₁) ∷ ‵ (froom (to-block) l₁₂ 0) ∷ ‵ (fdies (to-block) l₁₂) ∷ ‵ (froom (tyUnit) l₁₃ 0) ∷ ‵ (fdies (tyUnit) l₁₃) ∷ ‵ (froom (to-row) l₁₄ 0) ∷ ‵ (fdies (to-row) l₁₄) ∷ ‵ (froom (to-rows) l₁₅ 0) ∷ ‵ (fdies (to-rows) l₁₅) ∷ ‵ (froom (to-tally) l₁₆ 0) ∷ ‵ (fdies (to-tally) l₁₆) ∷ ‵ (froom (to-block) l₁₇ 0) ∷ ‵ (fdies (to-block) l₁₇) ∷ []
 
-      finish : Sq W Decided-on (runs C Λ En steps.t-8 (atRet En Post))
-      finish =
+      finish : (u : Decided) → u ≡ decidedOn v e s → Is U.the-row u (LL.vals U.the-type U′.the-laws u) → Sq W (On (‵ (fat fullShare (U′.mir) l₉ 0 (LL.val U.the-type U′.the-laws u)))) (runs C Λ En steps.t-8 (atRet En Post))
+      finish u decided is-u =
           -- the row is stored back
           assigns ! (addr ! (from ! (fld ! refl (hop ! (look-in ! 16 (sub ! 0 refl (whole !))) (stop !))))) (from ! (stop !)) (init ! 40 refl (tt, tt)) $
           assigns ! (agg ! (and-then ! (load ! (from ! (stop !)) (look ! 40 refl)) (and-then ! (load ! (from ! (fld ! refl (stop !))) (look-in ! 16 (sub ! 1 refl (whole !)))) (no-more !)))) (from ! (stop !)) (init ! 42 refl (tt, (tt, (record { fits = room .0 }, tt)))) $
@@ -350,6 +350,15 @@ module _ {M : Type 1} (𝓤 : URA M) (H : Heap 𝓤) (A : Atoms 𝓤) (W : Given
           is-object : Is O.the-row (u .object) (mach-row (u .object) ∷ [])
           is-object = LL.owed U.the-type U′.the-laws u _ is-u .1 .1 .0
 
+      -- what is decided on what the step sees
+      decides : Is O.the-row e (mach-row e ∷ []) → Is X.the-row v (mach-seen v ∷ []) → Sq W (On (‵ (froom (U′.mir) l₉ 0))) (runs C Λ En steps.t-7 (atRet En Post))
+      decides is-row is-seen =
+          calls-saying ! fm (decide.signature .params) U.the-row (decide.ended .kept) (decide.clauses 𝓤 H A at-mem run) (known .decide)
+          (LL.makes X.the-type X′.the-plain 𝓤 H A, (LL.makes O.the-type O′.the-plain 𝓤 H A, (LL.makes S.the-type S′.the-plain 𝓤 H A, tt))) (LL.val U.the-type U′.the-laws) (LL.tells U.the-type U′.the-laws)
+          (v, (e, (s, tt))) (mach-seen v ∷ [], (mach-row e ∷ [], (vs ∷ [], tt))) (is-seen, (is-row, (is-s, tt))) tt (id⊢ 𝓤 _) (λ u. u ≡ decidedOn v e s) (λ a _. id⊢ 𝓤 _)
+          (and-then ! (load ! (from ! (stop !)) (look ! 29 refl)) (and-then ! (load ! (from ! (stop !)) (look ! 27 refl)) (and-then ! (load ! (from ! (stop !)) (look ! 23 refl)) (no-more !)))) (λ u decided is-u.
+          land ! (from ! (stop !)) (init ! 30 refl (typed-U u is-u)) $ finish u decided is-u)
+
     walk : ent 𝓤 (onEntry 𝓤 H A go-on.signature (κ, (κ′, (κ″, tt))) (q, (q′, (q″, tt))) x at) (WpFn 𝓤 H C Λ code.function (vptr b o ∷ sliceVal (b′, o′) (length ys) ∷ vptr b″ o″ ∷ vc ∷ vs ∷ []) Post)
     walk =
         qed W ((‵ (flft κ q) ⊛ ‵ (flft κ′ q′) ⊛ ‵ (flft κ″ q″) ⊛ ‵ ftrue) ∷ ‵ (owns (MutRef (named 0) κ B.the-row ∷ MutSlice (named 1) κ′ O.the-row ∷ MutRef (named 2) κ″ T.the-row ∷ K.the-row ∷ S.the-row ∷ []) x at) ∷ []) ∵
@@ -380,14 +389,8 @@ module _ {M : Type 1} (𝓤 : URA M) (H : Heap 𝓤) (A : Atoms 𝓤) (W : Given
         (partAt B.the-row fullShare d b o) (record-lent 𝓤 H A W B.the-row b o d) (λ _. (c .sound, (c .live, (s, tt)))) (λ _. (vbool (c .sound) ∷ [], (vint w32 (c .live) ∷ [], (vs ∷ [], tt)))) (λ _. (is-sound, (is-live, (is-s, tt)))) (λ _ _. tt) (λ _ _. id⊢ 𝓤 _) v (λ _ _ a w. (a ≡ seenOf (c .sound) (c .live) d s) × (w ≡ d)) (λ _ _ a ws. id⊢ 𝓤 _)
         (λ α δ a w eq. (eq .0 ∙ sym (goes .seen), subst (λ (z : Block). Back 𝓤 H A (mutRefTo (0 ∷ []) tt (plain (λ _. B.the-row))) (partAt B.the-row fullShare d b o) (record-lent 𝓤 H A W B.the-row b o d) yes α δ w (partAt B.the-row fullShare z b o)) (eq .1) (record-lent-back 𝓤 H A W B.the-row b o d α δ w)))
         (λ _ _. (and-then ! (load ! (from ! (stop !)) (look ! 26 refl)) (and-then ! (load ! (from ! (fld ! sound-at (stop !))) (look-in ! 42 (sub ! 0 sound-at (whole !)))) (and-then ! (load ! (from ! (fld ! live-at (stop !))) (look-in ! 42 (sub ! 1 live-at (whole !)))) (and-then ! (load ! (from ! (stop !)) (look ! 40 refl)) (no-more !)))))) (λ is-seen. land ! (from ! (stop !)) (init ! 33 refl (typed-X is-seen)) $
-        -- what is decided on it
-        calls-saying ! fm (decide.signature .params) U.the-row (decide.ended .kept) (decide.clauses 𝓤 H A at-mem run) (known .decide)
-        (LL.makes X.the-type X′.the-plain 𝓤 H A, (LL.makes O.the-type O′.the-plain 𝓤 H A, (LL.makes S.the-type S′.the-plain 𝓤 H A, tt))) (LL.val U.the-type U′.the-laws) (LL.tells U.the-type U′.the-laws)
-        (v, (e, (s, tt))) (mach-seen v ∷ [], (mach-row e ∷ [], (vs ∷ [], tt))) (is-seen, (is-row, (is-s, tt))) tt (id⊢ 𝓤 _) (λ u. u ≡ decidedOn v e s) (λ a _. id⊢ 𝓤 _)
-        (and-then ! (load ! (from ! (stop !)) (look ! 34 refl)) (and-then ! (load ! (from ! (stop !)) (look ! 36 refl)) (and-then ! (load ! (from ! (stop !)) (look ! 40 refl)) (no-more !)))) (λ u decided is-u.
-        land ! (from ! (stop !)) (init ! 31 refl (typed-U u is-u)) $
         forget ! 29 refl $ forget ! 27 refl $ forget ! 25 refl $
-        keep ! (1 ∷ 0 ∷ 2 ∷ 3 ∷ 4 ∷ 5 ∷ 8 ∷ 9 ∷ 10 ∷ 12 ∷ 13 ∷ 14 ∷ 49 ∷ 50 ∷ 47 ∷ 48 ∷ 45 ∷ 46 ∷ 43 ∷ 44 ∷ 41 ∷ 42 ∷ 39 ∷ 40 ∷ 37 ∷ 38 ∷ 35 ∷ 36 ∷ 33 ∷ 34 ∷ 31 ∷ 32 ∷ 29 ∷ 30 ∷ 27 ∷ 28 ∷ 25 ∷ 26 ∷ 23 ∷ 24 ∷ 21 ∷ 22 ∷ 19 ∷ 20 ∷ 17 ∷ 18 ∷ 15 ∷ 16 ∷ []) $ finish l₀ l₁ l₂ l₃ l₄ l₅ l₆ l₇ l₈ l₉ l₁₀ l₁₁ l₁₂ l₁₃ l₁₄ l₁₅ l₁₆ l₁₇ u decided is-u is-i)))))))))))))))))))))))
+        keep ! (1 ∷ 0 ∷ 2 ∷ 3 ∷ 4 ∷ 5 ∷ 8 ∷ 9 ∷ 10 ∷ 12 ∷ 13 ∷ 14 ∷ 49 ∷ 50 ∷ 47 ∷ 48 ∷ 45 ∷ 46 ∷ 43 ∷ 44 ∷ 41 ∷ 42 ∷ 39 ∷ 40 ∷ 37 ∷ 38 ∷ 35 ∷ 36 ∷ 33 ∷ 34 ∷ 31 ∷ 32 ∷ 29 ∷ 30 ∷ 27 ∷ 28 ∷ 25 ∷ 26 ∷ 23 ∷ 24 ∷ 21 ∷ 22 ∷ 19 ∷ 20 ∷ 17 ∷ 18 ∷ 15 ∷ 16 ∷ []) $ decides l₀ l₁ l₂ l₃ l₄ l₅ l₆ l₇ l₈ l₉ l₁₀ l₁₁ l₁₂ l₁₃ l₁₄ l₁₅ l₁₆ l₁₇ is-i is-row is-seen))))))))))))))))))))))
       where
         is-sound : Is Boolean (c .sound) (vbool (c .sound) ∷ [])
         is-sound = LL.owed K.the-type K′.the-laws c _ is-c .0

@@ -1,5 +1,5 @@
--- `released::release` meets its contract: a walk of its MIR, by hand. Where no warp waits it returns at once. Else `barrier_row::result_of` is called and the borrow is opened once, before the loop; a turn takes one row out, copies it, calls `freed_at` and stores its result in the row's place. When the loop is left the borrow is closed at the rows with the waiting warps released.
--- The invariant, where t rows are left: i is the length less t, and the waiting warps among the first i are released.
+-- `released::release` meets its contract: a walk of its MIR, by hand. Where the set is empty it returns at once. Else the borrow is opened once, before the loop; a turn takes one row out, copies it, calls `released_at` and stores its result in the row's place. When the loop is left the borrow is closed at the rows with the set's warps released.
+-- The invariant, where t rows are left: i is the length less t, and the set's warps among the first i are released.
 -- Assumes nothing.
 use mathlib.Core.Path.{_≡_, refl, sym, _∙_, ap, subst}
 use mathlib.Core.Bool.{Bool}
@@ -45,25 +45,20 @@ use denote.Triple.Table.{cited}
 use denote.Triple.Walked.{says, Stays, stay-slice, stay-none, walkOf, Walks, ends-at, walked, goes-slice, goes-none}
 use denote.Exit.{yes}
 use borrow.Author.Tests.{lt-ltb, le-ltb}
-use Rattle.block.specs.declared.Barrier.{Barrier}
+use Rattle.barriers.specs.declared.Freed.{Freed}
 use Rattle.block.specs.declared.Warp.{Warp}
 use Rattle.block.specs.Tables.{freshWarp}
-use Rattle.barrier_row.specs.Rows.{resultOf}
-use Rattle.block.proofs.Barrier as B
-use Rattle.block.proofs.Barrier.Laws as B′
+use Rattle.barriers.proofs.Freed as F
+use Rattle.barriers.proofs.Freed.Laws as F′
 use Rattle.block.proofs.Warp as R
 use Rattle.block.proofs.Warp.Laws as R′
-use Rattle.barrier_row.proofs.result_of as result-of
-use Rattle.barrier_row.proofs.result_of.Symbol as result-of-def
-use Rattle.barrier_row.proofs.result_of.Symbol.{name as #barrier-row·result-of}
-use Rattle.barrier_row.proofs.result_of.Met as result-of-thm
 use Rattle.barriers.specs.Steps.{releasedWarps}
 use Rattle.walks.proofs.Walk.{calls-exact, forks, gone1, concluded, over}
-use Rattle.released.proofs.Rows.{firsts-none, length-firsts, firsts-next, freedRow, freedTo, freed-all, none-freed}
-use Rattle.released.proofs.freed_at as freed-at
-use Rattle.released.proofs.freed_at.Symbol as freed-at-def
-use Rattle.released.proofs.freed_at.Symbol.{name as #released·freed-at}
-use Rattle.released.proofs.freed_at.Met as freed-at-thm
+use Rattle.released.proofs.Rows.{firsts-none, length-firsts, firsts-next, releasedRow, releasedTo, released-all, none-released}
+use Rattle.released.proofs.released_at as released-at
+use Rattle.released.proofs.released_at.Symbol as released-at-def
+use Rattle.released.proofs.released_at.Symbol.{name as #released·released-at}
+use Rattle.released.proofs.released_at.Met as released-at-thm
 use Rattle.released.proofs.release.Key.{name as #released·release}
 use Rattle.released.proofs.release as release
 use Rattle.released.proofs.release.Statement as stated
@@ -71,14 +66,11 @@ use Rattle.released.proofs.release.Code as code
 use Rattle.released.proofs.release.Code.Mir as steps
 
 abbrev stayed : Stays (release.ended .signature .params) (release.ended .kept)
-stayed = (stay-slice (0 ∷ []) tt (plain (λ _. R.the-row)), (stay-none (λ _. B.the-row) yes, tt))
+stayed = (stay-slice (0 ∷ []) tt (plain (λ _. R.the-row)), (stay-none (λ _. F.the-row) yes, tt))
 
 -- the contracts that the proof cites
-abbrev ResultOf : {M : Type 1} (𝓤 : URA M) (H : Heap 𝓤) (A : Atoms 𝓤) (mem : Memory → SProp 𝓤) (run : Routine → Fun 𝓤) → Contract 𝓤
-ResultOf 𝓤 H A mem run = tripleOf 𝓤 H A result-of.signature (result-of.spec 𝓤 H A mem run)
-
-abbrev FreedAt : {M : Type 1} (𝓤 : URA M) (H : Heap 𝓤) (A : Atoms 𝓤) (mem : Memory → SProp 𝓤) (run : Routine → Fun 𝓤) → Contract 𝓤
-FreedAt 𝓤 H A mem run = tripleOf 𝓤 H A freed-at.signature (freed-at.spec 𝓤 H A mem run)
+abbrev ReleasedAt : {M : Type 1} (𝓤 : URA M) (H : Heap 𝓤) (A : Atoms 𝓤) (mem : Memory → SProp 𝓤) (run : Routine → Fun 𝓤) → Contract 𝓤
+ReleasedAt 𝓤 H A mem run = tripleOf 𝓤 H A released-at.signature (released-at.spec 𝓤 H A mem run)
 
 abbrev word : Ty
 word = tyInt w64
@@ -86,28 +78,28 @@ word = tyInt w64
 abbrev slice : Ty
 slice = sliceTy (tyRef (named 0) mut (pointee (R.the-row .written)))
 
-module _ {M : Type 1} (𝓤 : URA M) (H : Heap 𝓤) (A : Atoms 𝓤) (W : Given 𝓤 H A) (mem : Memory → SProp 𝓤) (run : Routine → Fun 𝓤) (κ : Lft) (q : Share) (b o : ℕ) (γ : GName) (ys : List Warp) (r : Barrier) (room : Room R.the-row (length ys)) where
+module _ {M : Type 1} (𝓤 : URA M) (H : Heap 𝓤) (A : Atoms 𝓤) (W : Given 𝓤 H A) (mem : Memory → SProp 𝓤) (run : Routine → Fun 𝓤) (κ : Lft) (q : Share) (b o : ℕ) (γ : GName) (ys : List Warp) (f : Freed) (room : Room R.the-row (length ys)) where
   abbrev n : ℕ
   n = length ys
 
-  abbrev x : RefT (List Warp) × (Barrier × Unit {0})
-  x = (record { ptr = (b, o); name = γ; now = ys }, (r, tt))
+  abbrev x : RefT (List Warp) × (Freed × Unit {0})
+  x = (record { ptr = (b, o); name = γ; now = ys }, (f, tt))
 
   abbrev mach : Warp → Val
   mach = LL.val R.the-type R′.the-laws
 
-  abbrev mach-r : Val
-  mach-r = LL.val B.the-type B′.the-laws r
+  abbrev mach-f : Val
+  mach-f = LL.val F.the-type F′.the-laws f
 
   abbrev at : List Val × (List Val × Unit {0})
-  at = (sliceVal (b, o) n ∷ [], (mach-r ∷ [], tt))
+  at = (sliceVal (b, o) n ∷ [], (mach-f ∷ [], tt))
 
   -- the rows after so many turns, and the list at exit
   abbrev to : ℕ → List Warp
-  to k = freedTo r ys k
+  to k = releasedTo f ys k
 
   length-to : (k : ℕ) → length (to k) ≡ n
-  length-to k = length-firsts (freedRow r) ys k 0
+  length-to k = length-firsts (releasedRow f) ys k 0
 
   abbrev zs : List Warp
   zs = to n
@@ -117,10 +109,10 @@ module _ {M : Type 1} (𝓤 : URA M) (H : Heap 𝓤) (A : Atoms 𝓤) (W : Given
   old k = getD (to k) k freshWarp
 
   abbrev new : ℕ → Warp
-  new k = freedRow r k (old k)
+  new k = releasedRow f k (old k)
 
   abbrev Kept : Fml
-  Kept = fsep (B.the-row .own r (mach-r ∷ [])) ftrue
+  Kept = fsep (F.the-row .own f (mach-f ∷ [])) ftrue
 
   abbrev Post : Val → SProp 𝓤
   Post = walkOf 𝓤 H A release.ended stayed (release.clauses 𝓤 H A mem run) .post (((κ, tt), (q, tt), tt, x, at), tt)
@@ -128,51 +120,51 @@ module _ {M : Type 1} (𝓤 : URA M) (H : Heap 𝓤) (A : Atoms 𝓤) (W : Given
   exits : ent 𝓤 (⋆ 𝓤 H A (‵ (fobs γ (codedHoleys R.the-row .code (heres R.the-row zs))) ∷ ‵ (fbor κ (Held R.the-row (length zs) b o γ)) ∷ ‵ (flft κ q) ∷ ‵ Kept ∷ [])) (Post vunit)
   exits =
       qed W (‵ (fobs γ (codedHoleys R.the-row .code (heres R.the-row zs))) ∷ ‵ (fbor κ (Held R.the-row (length zs) b o γ)) ∷ ‵ (flft κ q) ∷ ‵ Kept ∷ []) ∵
-      suffices ! _ (ends-at 𝓤 H A release.ended stayed (release.clauses 𝓤 H A mem run) W (((κ, tt), (q, tt), tt, x, at), tt) vunit tt (zs, (tt, tt)) (length-to n, (tt, tt))) $ says ! (freed-all r ys) $
+      suffices ! _ (ends-at 𝓤 H A release.ended stayed (release.clauses 𝓤 H A mem run) W (((κ, tt), (q, tt), tt, x, at), tt) vunit tt (zs, (tt, tt)) (length-to n, (tt, tt))) $ says ! (released-all f ys) $
       nothing ! $ move ! (3 ∷ 0 ∷ []) $ join ! $ frame ! $ fjoin ! $
       pureI ! (at-slice R.the-row (record { ptr = (b, o); name = γ; now = zs }) (at .0)) (tt, (tt, tt)) (ap (λ (m : ℕ). sliceVal (b, o) m ∷ []) (sym (length-to n)), subst (Room R.the-row) (sym (length-to n)) room) $ fjoin ! $ fjoin ! $ frame ! $
       feqI ! (List Val) (vunit ∷ []) (vunit ∷ []) refl $ done !
 
-  -- where no warp waits
-  exits-none : ys ≡ releasedWarps r ys → ent 𝓤 (⋆ 𝓤 H A ((‵ (flft κ q) ⊛ ‵ ftrue) ∷ ‵ (owns (MutSlice (named 0) κ R.the-row ∷ B.the-row ∷ []) x at) ∷ [])) (Post vunit)
+  -- where the set is empty
+  exits-none : ys ≡ releasedWarps f ys → ent 𝓤 (⋆ 𝓤 H A ((‵ (flft κ q) ⊛ ‵ ftrue) ∷ ‵ (owns (MutSlice (named 0) κ R.the-row ∷ F.the-row ∷ []) x at) ∷ [])) (Post vunit)
   exits-none e =
-      qed W ((‵ (flft κ q) ⊛ ‵ ftrue) ∷ ‵ (owns (MutSlice (named 0) κ R.the-row ∷ B.the-row ∷ []) x at) ∷ []) ∵
+      qed W ((‵ (flft κ q) ⊛ ‵ ftrue) ∷ ‵ (owns (MutSlice (named 0) κ R.the-row ∷ F.the-row ∷ []) x at) ∷ []) ∵
       suffices ! _ (ends-at 𝓤 H A release.ended stayed (release.clauses 𝓤 H A mem run) W (((κ, tt), (q, tt), tt, x, at), tt) vunit tt (ys, (tt, tt)) (refl, (tt, tt))) $ says ! e $
       frame ! $ frame ! $ feqI ! (List Val) (vunit ∷ []) (vunit ∷ []) refl $ done !
 
-  module _ (𝓣 : Tables 𝓤 H) (result : Triple 𝓤 (𝓣 .C #barrier-row·result-of) (ResultOf 𝓤 H A mem run)) (freed : Triple 𝓤 (𝓣 .C #released·freed-at) (FreedAt 𝓤 H A mem run)) (is-r : Is B.the-row r (mach-r ∷ [])) where
-    module _ (v-fits : resultOf r < 2 ^ 32) (l₀ l₁ l₂ l₃ l₄ l₅ l₆ l₇ l₈ l₉ l₁₀ l₁₁ l₁₂ l₁₃ : ℕ) where
+  module _ (𝓣 : Tables 𝓤 H) (released : Triple 𝓤 (𝓣 .C #released·released-at) (ReleasedAt 𝓤 H A mem run)) (is-f : Is F.the-row f (mach-f ∷ [])) where
+    module _ (l₀ l₁ l₂ l₃ l₄ l₅ l₆ l₇ l₈ l₉ l₁₀ l₁₁ l₁₂ : ℕ) where
       abbrev En : Env 𝓤 H
-      En = (tyUnit, l₀) ∷ (slice, l₁) ∷ (B′.mir, l₂) ∷ (tyInt w32, l₃) ∷ (word, l₄) ∷ (word, l₅) ∷ (tyBool, l₆) ∷ (tyBool, l₇) ∷ (R′.mir, l₈) ∷ (word, l₉) ∷ (tyPtr, l₁₀) ∷ (R′.mir, l₁₁) ∷ (word, l₁₂) ∷ (tyPtr, l₁₃) ∷ []
+      En = (tyUnit, l₀) ∷ (slice, l₁) ∷ (F′.mir, l₂) ∷ (word, l₃) ∷ (word, l₄) ∷ (tyBool, l₅) ∷ (tyBool, l₆) ∷ (R′.mir, l₇) ∷ (word, l₈) ∷ (tyPtr, l₉) ∷ (R′.mir, l₁₀) ∷ (word, l₁₁) ∷ (tyPtr, l₁₂) ∷ []
 
       -- what no turn touches
       abbrev Frame : List (Item 𝓤)
-      Frame = ‵ (fat fullShare word l₄ 0 (vint w64 n)) ∷ ‵ (fat fullShare (tyInt w32) l₃ 0 (vint w32 (resultOf r))) ∷ ‵ (fat fullShare B′.mir l₂ 0 mach-r) ∷ ‵ (fat fullShare slice l₁ 0 (sliceVal (b, o) n)) ∷ ‵ (froom tyUnit l₀ 0) ∷ ‵ (froom tyBool l₆ 0)
+      Frame = ‵ (fat fullShare word l₃ 0 (vint w64 n)) ∷ ‵ (fat fullShare F′.mir l₂ 0 mach-f) ∷ ‵ (fat fullShare slice l₁ 0 (sliceVal (b, o) n)) ∷ ‵ (froom tyUnit l₀ 0) ∷ ‵ (froom tyBool l₅ 0)
           ∷ ‵ (fobor κ q (Held R.the-row n b o γ)) ∷ ‵ (fobs γ (codedHoleys R.the-row .code (heres R.the-row ys))) ∷ ‵ (fauth γ (codedHoleys R.the-row .code (heres R.the-row ys))) ∷ ‵ Kept
-          ∷ ‵ (fdies tyUnit l₀) ∷ ‵ (fdies slice l₁) ∷ ‵ (fdies B′.mir l₂) ∷ ‵ (fdies (tyInt w32) l₃) ∷ ‵ (fdies word l₄) ∷ ‵ (fdies word l₅) ∷ ‵ (fdies tyBool l₆) ∷ ‵ (fdies tyBool l₇) ∷ ‵ (fdies R′.mir l₈) ∷ ‵ (fdies word l₉) ∷ ‵ (fdies tyPtr l₁₀) ∷ ‵ (fdies R′.mir l₁₁) ∷ ‵ (fdies word l₁₂) ∷ ‵ (fdies tyPtr l₁₃) ∷ []
+          ∷ ‵ (fdies tyUnit l₀) ∷ ‵ (fdies slice l₁) ∷ ‵ (fdies F′.mir l₂) ∷ ‵ (fdies word l₃) ∷ ‵ (fdies word l₄) ∷ ‵ (fdies tyBool l₅) ∷ ‵ (fdies tyBool l₆) ∷ ‵ (fdies R′.mir l₇) ∷ ‵ (fdies word l₈) ∷ ‵ (fdies tyPtr l₉) ∷ ‵ (fdies R′.mir l₁₀) ∷ ‵ (fdies word l₁₁) ∷ ‵ (fdies tyPtr l₁₂) ∷ []
 
       -- the invariant, where t rows are left
       abbrev I : ℕ → List (Item 𝓤)
-      I t = ‵ (flt t (suc n)) ∷ ‵ (row R.the-row fullShare (to (n - t)) b o) ∷ ‵ (fat fullShare word l₅ 0 (vint w64 (n - t)))
-          ∷ ‵ (froom tyBool l₇ 0) ∷ ‵ (froom R′.mir l₈ 0) ∷ ‵ (froom word l₉ 0) ∷ ‵ (froom tyPtr l₁₀ 0) ∷ ‵ (froom R′.mir l₁₁ 0) ∷ ‵ (froom word l₁₂ 0) ∷ ‵ (froom tyPtr l₁₃ 0) ∷ Frame
+      I t = ‵ (flt t (suc n)) ∷ ‵ (row R.the-row fullShare (to (n - t)) b o) ∷ ‵ (fat fullShare word l₄ 0 (vint w64 (n - t)))
+          ∷ ‵ (froom tyBool l₆ 0) ∷ ‵ (froom R′.mir l₇ 0) ∷ ‵ (froom word l₈ 0) ∷ ‵ (froom tyPtr l₉ 0) ∷ ‵ (froom R′.mir l₁₀ 0) ∷ ‵ (froom word l₁₁ 0) ∷ ‵ (froom tyPtr l₁₂ 0) ∷ Frame
 
       -- when the loop is left, the rest of the body runs
       abbrev Left : Out → SProp 𝓤
-      Left = afterBlock 𝓤 H (afterSeq 𝓤 H (Wp 𝓤 H (𝓣 .C) (𝓣 .Λ) En steps.t-7 (atReturn 𝓤 H En Post)) (atReturn 𝓤 H En Post))
+      Left = afterBlock 𝓤 H (afterSeq 𝓤 H (Wp 𝓤 H (𝓣 .C) (𝓣 .Λ) En steps.t-6 (atReturn 𝓤 H En Post)) (atReturn 𝓤 H En Post))
 
       turn : (t : ℕ) → Sq W (I t) (runs (𝓣 .C) (𝓣 .Λ) En steps.turn-1 (anyQ (afterTurn 𝓤 H (Below 𝓤 H A _<_ I t) Left)))
       unfolding afterTurn
       turn zero =
           fltL ! (λ _.
-          -- [the rows; _5; _7; _8; _9; _10; _11; _12; _13; _4; _3; _2; _1; _0; _6; the open borrow; obs; auth; r's; and that each local dies]
+          -- [the rows; _4; _6; _7; _8; _9; _10; _11; _12; _3; _2; _1; _0; _5; the open borrow; obs; auth; f's; and that each local dies]
           assigns ! (bin ! (load ! (from ! (stop !)) (look ! 1 refl)) (load ! (from ! (stop !)) (look ! 9 refl)) tt) (from ! (stop !)) (init ! 2 refl (tt, tt)) $
-          rewrite ! 2 (λ (y : Bool). ‵ (fat fullShare tyBool l₇ 0 (vbool y))) (le-ltb (n - 0) n (omega arith)) refl $
-          leaves-loop ! (load ! (from ! (stop !)) (look ! 2 refl)) $ exec ! (𝓣 .C) (𝓣 .Λ) En steps.t-7 (atRet En Post) $
-          assigns ! (of-opd ! (unit-lit !)) (from ! (stop !)) (init ! 13 refl (tt, tt)) $
+          rewrite ! 2 (λ (y : Bool). ‵ (fat fullShare tyBool l₆ 0 (vbool y))) (le-ltb (n - 0) n (omega arith)) refl $
+          leaves-loop ! (load ! (from ! (stop !)) (look ! 2 refl)) $ exec ! (𝓣 .C) (𝓣 .Λ) En steps.t-6 (atRet En Post) $
+          assigns ! (of-opd ! (unit-lit !)) (from ! (stop !)) (init ! 12 refl (tt, tt)) $
           rewrite ! 0 (λ (k : ℕ). ‵ (row R.the-row fullShare (to k) b o)) (all n) refl $
-          move ! (0 ∷ 15 ∷ 16 ∷ 17 ∷ []) $ closes-slice ! tt R.the-row ys zs (length-to n) b o $
-          -- [obs; the borrow; the token; _5; _7; _8; _9; _10; _11; _12; _13; _4; _3; _2; _1; _0; _6; r's; and that each local dies]
-          returns ! (look ! 15 refl) $ move ! (15 ∷ 18 ∷ []) $ gone1 ! $ move ! (14 ∷ 17 ∷ []) $ gone1 ! $ move ! (13 ∷ 16 ∷ []) $ gone1 ! $ move ! (12 ∷ 15 ∷ []) $ gone1 ! $ move ! (11 ∷ 14 ∷ []) $ gone1 ! $ move ! (3 ∷ 13 ∷ []) $ gone1 ! $
+          move ! (0 ∷ 14 ∷ 15 ∷ 16 ∷ []) $ closes-slice ! tt R.the-row ys zs (length-to n) b o $
+          -- [obs; the borrow; the token; _4; _6; _7; _8; _9; _10; _11; _12; _3; _2; _1; _0; _5; f's; and that each local dies]
+          returns ! (look ! 14 refl) $ move ! (14 ∷ 17 ∷ []) $ gone1 ! $ move ! (13 ∷ 16 ∷ []) $ gone1 ! $ move ! (12 ∷ 15 ∷ []) $ gone1 ! $ move ! (11 ∷ 14 ∷ []) $ gone1 ! $ move ! (3 ∷ 13 ∷ []) $ gone1 ! $
           move ! (10 ∷ 12 ∷ []) $ free1 ! $ move ! (3 ∷ 11 ∷ []) $ gone1 ! $ move ! (3 ∷ 10 ∷ []) $ free1 ! $ move ! (3 ∷ 9 ∷ []) $ free1 ! $ move ! (3 ∷ 8 ∷ []) $ free1 ! $ move ! (3 ∷ 7 ∷ []) $ free1 ! $
           move ! (3 ∷ 6 ∷ []) $ free1 ! $ move ! (3 ∷ 5 ∷ []) $ free1 ! $ free0 ! $ by ! exits)
         where
@@ -181,27 +173,27 @@ module _ {M : Type 1} (𝓤 : URA M) (H : Heap 𝓤) (A : Atoms 𝓤) (W : Given
       turn (suc t) =
           fltL ! (λ less.
           assigns ! (bin ! (load ! (from ! (stop !)) (look ! 1 refl)) (load ! (from ! (stop !)) (look ! 9 refl)) tt) (from ! (stop !)) (init ! 2 refl (tt, tt)) $
-          rewrite ! 2 (λ (y : Bool). ‵ (fat fullShare tyBool l₇ 0 (vbool y))) (lt-ltb (n - suc t) n (within less)) refl $
+          rewrite ! 2 (λ (y : Bool). ‵ (fat fullShare tyBool l₆ 0 (vbool y))) (lt-ltb (n - suc t) n (within less)) refl $
           stays ! (load ! (from ! (stop !)) (look ! 2 refl)) $
           assigns ! (bin ! (load ! (from ! (stop !)) (look ! 1 refl)) (lit ! tt) (record { fits = place-fits less })) (from ! (stop !)) (init ! 4 refl (tt, record { fits = place-fits less })) $
-          assigns ! (bin ! (load ! (from ! (fld ! refl (stop !))) (look-in ! 12 (sub ! 0 refl (whole !)))) (load ! (from ! (stop !)) (look ! 4 refl)) tt) (from ! (stop !)) (init ! 5 refl (tt, tt)) $
-          rewrite ! 5 (λ (p : ℕ). ‵ (fat fullShare tyPtr l₁₀ 0 (vptr b p))) (sym (place-is 8 o (n - suc t))) refl $
+          assigns ! (bin ! (load ! (from ! (fld ! refl (stop !))) (look-in ! 11 (sub ! 0 refl (whole !)))) (load ! (from ! (stop !)) (look ! 4 refl)) tt) (from ! (stop !)) (init ! 5 refl (tt, tt)) $
+          rewrite ! 5 (λ (p : ℕ). ‵ (fat fullShare tyPtr l₉ 0 (vptr b p))) (sym (place-is 8 o (n - suc t))) refl $
           elem-out ! R.the-row (Is R.the-row) (shows 𝓤 H A R.the-row) (LL.vals R.the-type R′.the-laws) (LL.tells R.the-type R′.the-laws) fullShare (to (n - suc t)) (n - suc t) freshWarp b o (there less) (λ is.
-          -- [the row; what it owns; the others; _5; _7; _8; _9; _10; _11; _12; _13; _4; _3; _2; _1; …]
+          -- [the row; what it owns; the others; _4; _6; _7; _8; _9; _10; _11; _12; _3; _2; _1; …]
           assigns ! (of-opd ! (load ! (from ! (hop ! (look ! 7 refl) (stop !))) (look-raw ! 0 refl))) (from ! (stop !)) (init ! 8 refl (LL.lawful R.the-type R′.the-laws 𝓤 H A W .typed (old (n - suc t)) _ is .0)) $
-          calls-exact ! (fmOf 𝓤 H (W .laws) 𝓣) (freed-at.signature .params) R.the-row (freed-at.ended .kept) (freed-at.clauses 𝓤 H A mem run) freed
-          (LL.makes B.the-type B′.the-plain 𝓤 H A, (uint-makes 𝓤 H A W w32, (uint-makes 𝓤 H A W w64, (LL.makes R.the-type R′.the-plain 𝓤 H A, tt)))) mach (LL.tells R.the-type R′.the-laws)
-          (r, (resultOf r, (n - suc t, (old (n - suc t), tt)))) (mach-r ∷ [], (vint w32 (resultOf r) ∷ [], (vint w64 (n - suc t) ∷ [], (mach (old (n - suc t)) ∷ [], tt)))) (is-r, ((refl, v-fits), ((refl, turn-fits less), (is, tt)))) tt (id⊢ 𝓤 _) (new (n - suc t)) (λ r e. id⊢ 𝓤 _)
-          (and-then ! (load ! (from ! (stop !)) (look ! 14 refl)) (and-then ! (load ! (from ! (stop !)) (look ! 13 refl)) (and-then ! (load ! (from ! (stop !)) (look ! 4 refl)) (and-then ! (load ! (from ! (stop !)) (look ! 9 refl)) (no-more !))))) (λ is′.
+          calls-exact ! (fmOf 𝓤 H (W .laws) 𝓣) (released-at.signature .params) R.the-row (released-at.ended .kept) (released-at.clauses 𝓤 H A mem run) released
+          (LL.makes F.the-type F′.the-plain 𝓤 H A, (uint-makes 𝓤 H A W w64, (LL.makes R.the-type R′.the-plain 𝓤 H A, tt))) mach (LL.tells R.the-type R′.the-laws)
+          (f, (n - suc t, (old (n - suc t), tt))) (mach-f ∷ [], (vint w64 (n - suc t) ∷ [], (mach (old (n - suc t)) ∷ [], tt))) (is-f, ((refl, turn-fits less), (is, tt))) tt (id⊢ 𝓤 _) (new (n - suc t)) (λ r e. id⊢ 𝓤 _)
+          (and-then ! (load ! (from ! (stop !)) (look ! 13 refl)) (and-then ! (load ! (from ! (stop !)) (look ! 4 refl)) (and-then ! (load ! (from ! (stop !)) (look ! 9 refl)) (no-more !)))) (λ is′.
           land ! (from ! (stop !)) (init ! 5 refl (LL.lawful R.the-type R′.the-laws 𝓤 H A W .typed (new (n - suc t)) _ is′ .0)) $
           assigns ! (bin ! (load ! (from ! (stop !)) (look ! 3 refl)) (lit ! tt) (record { fits = place-fits less })) (from ! (stop !)) (init ! 9 refl (tt, record { fits = place-fits less })) $
-          assigns ! (bin ! (load ! (from ! (fld ! refl (stop !))) (look-in ! 14 (sub ! 0 refl (whole !)))) (load ! (from ! (stop !)) (look ! 9 refl)) tt) (from ! (stop !)) (init ! 10 refl (tt, tt)) $
-          rewrite ! 10 (λ (p : ℕ). ‵ (fat fullShare tyPtr l₁₃ 0 (vptr b p))) (sym (place-is 8 o (n - suc t))) refl $
+          assigns ! (bin ! (load ! (from ! (fld ! refl (stop !))) (look-in ! 13 (sub ! 0 refl (whole !)))) (load ! (from ! (stop !)) (look ! 9 refl)) tt) (from ! (stop !)) (init ! 10 refl (tt, tt)) $
+          rewrite ! 10 (λ (p : ℕ). ‵ (fat fullShare tyPtr l₁₂ 0 (vptr b p))) (sym (place-is 8 o (n - suc t))) refl $
           assigns ! (of-opd ! (load ! (from ! (stop !)) (look ! 5 refl))) (from ! (hop ! (look ! 10 refl) (stop !))) (store-raw ! 0 refl (LL.lawful R.the-type R′.the-laws 𝓤 H A W .typed (new (n - suc t)) _ is′ .0)) $
           move ! (1 ∷ []) $ drop ! $ owned ! R.the-row (Is R.the-row) (LL.makes R.the-type R′.the-plain 𝓤 H A) (new (n - suc t)) _ is′ $ move ! (1 ∷ 0 ∷ []) $ elem-put ! R.the-row fullShare (to (n - suc t)) (n - suc t) (new (n - suc t)) (mach (new (n - suc t)) ∷ []) b o (there less) $
           assigns-last ! (bin ! (load ! (from ! (stop !)) (look ! 1 refl)) (lit ! tt) (record { fits = next-fits less })) (from ! (stop !)) (store ! 1 refl (tt, record { fits = next-fits less })) $
           forget ! 2 refl $ forget ! 3 refl $ forget ! 4 refl $ forget ! 5 refl $ forget ! 6 refl $ forget ! 7 refl $ forget ! 8 refl $
-          rewrite ! 1 (λ (m : ℕ). ‵ (fat fullShare word l₅ 0 (vint w64 m))) (next less) refl $ rewrite ! 0 (λ (l : List Warp). ‵ (row R.the-row fullShare l b o)) (one-more less) refl $
+          rewrite ! 1 (λ (m : ℕ). ‵ (fat fullShare word l₄ 0 (vint w64 m))) (next less) refl $ rewrite ! 0 (λ (l : List Warp). ‵ (row R.the-row fullShare l b o)) (one-more less) refl $
           fltI ! t (suc n) (fewer less) $ again ! _<_ I (suc t) t (omega arith))))
         where
           within : suc t < suc n → n - suc t < n
@@ -223,58 +215,54 @@ module _ {M : Type 1} (𝓤 : URA M) (H : Heap 𝓤) (A : Atoms 𝓤) (W : Given
           next less = omega arith
 
           one-more : suc t < suc n → set (to (n - suc t)) (n - suc t) (new (n - suc t)) ≡ to (n - t)
-          one-more less = firsts-next (freedRow r) ys (n - suc t) freshWarp (within less) ∙ ap to (next less)
+          one-more less = firsts-next (releasedRow f) ys (n - suc t) freshWarp (within less) ∙ ap to (next less)
 
           fewer : suc t < suc n → t < suc n
           fewer less = omega arith
 
       -- the loop, and the rest of the body. It stands apart from the walk, since within it the kernel's check goes past its bound
-      goes : Sq W (I n) (runs (𝓣 .C) (𝓣 .Λ) En steps.t-6 (atRet En Post))
+      goes : Sq W (I n) (runs (𝓣 .C) (𝓣 .Λ) En steps.t-5 (atRet En Post))
       goes = first ! $ blocks ! $ loops ! 𝓣 _<_ (Nat·lt-wfRel .wf) I turn n
 
-    walk : ent 𝓤 (onEntry 𝓤 H A release.signature (κ, tt) (q, tt) x at) (WpFn 𝓤 H (𝓣 .C) (𝓣 .Λ) code.function (sliceVal (b, o) n ∷ mach-r ∷ []) Post)
+    walk : ent 𝓤 (onEntry 𝓤 H A release.signature (κ, tt) (q, tt) x at) (WpFn 𝓤 H (𝓣 .C) (𝓣 .Λ) code.function (sliceVal (b, o) n ∷ mach-f ∷ []) Post)
     walk =
-        qed W ((‵ (flft κ q) ⊛ ‵ ftrue) ∷ ‵ (owns (MutSlice (named 0) κ R.the-row ∷ B.the-row ∷ []) x at) ∷ []) ∵ enter ! (𝓣 .C) (𝓣 .Λ) code.function (sliceVal (b, o) n ∷ mach-r ∷ []) _ $
-        alloc1 ! (λ l₀. alloc1 ! (λ l₁. alloc1 ! (λ l₂. alloc1 ! (λ l₃. alloc1 ! (λ l₄. alloc1 ! (λ l₅. alloc1 ! (λ l₆. alloc1 ! (λ l₇. alloc1 ! (λ l₈. alloc1 ! (λ l₉. alloc1 ! (λ l₁₀. alloc1 ! (λ l₁₁. alloc1 ! (λ l₁₂. alloc1 ! (λ l₁₃. alloc0 ! $ params1 ! $
-        pass1 ! (init ! 24 refl (tt, (tt, (record { fits = room .0 }, tt)))) $ pass1 ! (init ! 22 refl (LL.lawful B.the-type B′.the-laws 𝓤 H A W .typed r _ is-r .0)) $ pass0 ! $
-        -- [_13; …; _12; …; and so on to _0, two places each; the token; what the parameters own]
-        assigns ! (bin ! (load ! (from ! (fld ! refl (stop !))) (look-in ! 22 (sub ! 3 refl (whole !)))) (lit ! tt) tt) (from ! (stop !)) (init ! 14 refl (tt, tt)) $
+        qed W ((‵ (flft κ q) ⊛ ‵ ftrue) ∷ ‵ (owns (MutSlice (named 0) κ R.the-row ∷ F.the-row ∷ []) x at) ∷ []) ∵ enter ! (𝓣 .C) (𝓣 .Λ) code.function (sliceVal (b, o) n ∷ mach-f ∷ []) _ $
+        alloc1 ! (λ l₀. alloc1 ! (λ l₁. alloc1 ! (λ l₂. alloc1 ! (λ l₃. alloc1 ! (λ l₄. alloc1 ! (λ l₅. alloc1 ! (λ l₆. alloc1 ! (λ l₇. alloc1 ! (λ l₈. alloc1 ! (λ l₉. alloc1 ! (λ l₁₀. alloc1 ! (λ l₁₁. alloc1 ! (λ l₁₂. alloc0 ! $ params1 ! $
+        pass1 ! (init ! 22 refl (tt, (tt, (record { fits = room .0 }, tt)))) $ pass1 ! (init ! 20 refl (LL.lawful F.the-type F′.the-laws 𝓤 H A W .typed f _ is-f .0)) $ pass0 ! $
+        -- [_12; …; _11; …; and so on to _0, two places each; the token; what the parameters own]
+        assigns ! (bin ! (load ! (from ! (fld ! refl (stop !))) (look-in ! 20 (sub ! 0 refl (whole !)))) (lit ! tt) tt) (from ! (stop !)) (init ! 14 refl (tt, tt)) $
         forks ! (load ! (from ! (stop !)) (look ! 14 refl))
-        -- no warp waits
-        (λ empty. assigns ! (of-opd ! (unit-lit !)) (from ! (stop !)) (init ! 26 refl (tt, tt)) $ returns-within ! Post refl (look ! 26 refl) $
-        move ! (26 ∷ 27 ∷ []) $ gone1 ! $ move ! (24 ∷ 25 ∷ []) $ gone1 ! $ move ! (22 ∷ 23 ∷ []) $ gone1 ! $ move ! (20 ∷ 21 ∷ []) $ free1 ! $ move ! (18 ∷ 19 ∷ []) $ free1 ! $ move ! (16 ∷ 17 ∷ []) $ free1 ! $
+        -- the set is empty
+        (λ empty. assigns ! (of-opd ! (unit-lit !)) (from ! (stop !)) (init ! 24 refl (tt, tt)) $ returns-within ! Post refl (look ! 24 refl) $
+        move ! (24 ∷ 25 ∷ []) $ gone1 ! $ move ! (22 ∷ 23 ∷ []) $ gone1 ! $ move ! (20 ∷ 21 ∷ []) $ gone1 ! $ move ! (18 ∷ 19 ∷ []) $ free1 ! $ move ! (16 ∷ 17 ∷ []) $ free1 ! $
         move ! (14 ∷ 15 ∷ []) $ gone1 ! $ move ! (12 ∷ 13 ∷ []) $ free1 ! $ move ! (10 ∷ 11 ∷ []) $ free1 ! $ move ! (8 ∷ 9 ∷ []) $ free1 ! $ move ! (6 ∷ 7 ∷ []) $ free1 ! $ move ! (4 ∷ 5 ∷ []) $ free1 ! $
-        move ! (2 ∷ 3 ∷ []) $ free1 ! $ move ! (0 ∷ 1 ∷ []) $ free1 ! $ free0 ! $ by ! (exits-none (none-freed r ys (eqb→eq (r .waiting) 0 empty))))
-        -- some do
-        (λ _. calls-exact ! (fmOf 𝓤 H (W .laws) 𝓣) (result-of.signature .params) u32 (result-of.ended .kept) (result-of.clauses 𝓤 H A mem run) result (LL.makes B.the-type B′.the-plain 𝓤 H A, tt) (vint w32) (uint-tells w32)
-        (r, tt) (mach-r ∷ [], tt) (is-r, tt) tt (id⊢ 𝓤 _) (resultOf r) (λ r e. id⊢ 𝓤 _) (and-then ! (load ! (from ! (stop !)) (look ! 23 refl)) (no-more !)) (λ is-v.
-        land ! (from ! (stop !)) (init ! 20 refl (tt, record { fits = is-v .1 })) $
-        assigns ! (of-opd ! (load ! (from ! (fld ! refl (stop !))) (look-in ! 24 (sub ! 1 refl (whole !))))) (from ! (stop !)) (init ! 18 refl (tt, record { fits = room .0 })) $
+        move ! (2 ∷ 3 ∷ []) $ free1 ! $ move ! (0 ∷ 1 ∷ []) $ free1 ! $ free0 ! $ by ! (exits-none (none-released f ys (eqb→eq (f .set) 0 empty))))
+        -- it is not
+        (λ _. assigns ! (of-opd ! (load ! (from ! (fld ! refl (stop !))) (look-in ! 22 (sub ! 1 refl (whole !))))) (from ! (stop !)) (init ! 18 refl (tt, record { fits = room .0 })) $
         assigns ! (of-opd ! (lit ! tt)) (from ! (stop !)) (init ! 16 refl (tt, record { fits = lit< tt })) $ forget ! 14 refl $
-        move ! (29 ∷ []) $ fsplit ! $ fsplit ! $ move ! (1 ∷ []) $ fsplit ! $ move ! (32 ∷ []) $ split ! $ move ! (2 ∷ 3 ∷ 0 ∷ []) $ opens-slice ! tt R.the-row ys b o $
-        -- [the rows; the open borrow; obs; auth; true; the slice's fact; r's; _13; …; _12; …; and so on to _0]
-        rewrite ! 23 (λ (k : ℕ). ‵ (fat fullShare word l₅ 0 (vint w64 k))) (none n) refl $ rewrite ! 0 (λ (l : List Warp). ‵ (row R.the-row fullShare l b o)) (sym (firsts-none (freedRow r) ys 0)) refl $
+        move ! (27 ∷ []) $ fsplit ! $ fsplit ! $ move ! (1 ∷ []) $ fsplit ! $ move ! (30 ∷ []) $ split ! $ move ! (2 ∷ 3 ∷ 0 ∷ []) $ opens-slice ! tt R.the-row ys b o $
+        -- [the rows; the open borrow; obs; auth; true; the slice's fact; f's; _12; …; _11; …; and so on to _0]
+        rewrite ! 23 (λ (k : ℕ). ‵ (fat fullShare word l₄ 0 (vint w64 k))) (none n) refl $ rewrite ! 0 (λ (l : List Warp). ‵ (row R.the-row fullShare l b o)) (sym (firsts-none (releasedRow f) ys 0)) refl $
         rewrite ! 0 (λ (k : ℕ). ‵ (row R.the-row fullShare (to k) b o)) (none n) refl $
         fltI ! n (suc n) (omega arith) $
-        keep ! (0 ∷ 1 ∷ 24 ∷ 20 ∷ 18 ∷ 16 ∷ 14 ∷ 12 ∷ 10 ∷ 8 ∷ 26 ∷ 28 ∷ 30 ∷ 32 ∷ 34 ∷ 22 ∷ 2 ∷ 3 ∷ 4 ∷ 7 ∷ 35 ∷ 33 ∷ 31 ∷ 29 ∷ 27 ∷ 25 ∷ 23 ∷ 21 ∷ 19 ∷ 17 ∷ 15 ∷ 13 ∷ 11 ∷ 9 ∷ []) $
-        goes (is-v .1) l₀ l₁ l₂ l₃ l₄ l₅ l₆ l₇ l₈ l₉ l₁₀ l₁₁ l₁₂ l₁₃))))))))))))))))
+        keep ! (0 ∷ 1 ∷ 24 ∷ 20 ∷ 18 ∷ 16 ∷ 14 ∷ 12 ∷ 10 ∷ 8 ∷ 26 ∷ 28 ∷ 30 ∷ 32 ∷ 22 ∷ 2 ∷ 3 ∷ 4 ∷ 7 ∷ 33 ∷ 31 ∷ 29 ∷ 27 ∷ 25 ∷ 23 ∷ 21 ∷ 19 ∷ 17 ∷ 15 ∷ 13 ∷ 11 ∷ 9 ∷ []) $
+        goes l₀ l₁ l₂ l₃ l₄ l₅ l₆ l₇ l₈ l₉ l₁₀ l₁₁ l₁₂))))))))))))))
       where
         none : (m : ℕ) → 0 ≡ m - m
         none m = omega arith
 
 module _ {M : Type 1} (𝓤 : URA M) (H : Heap 𝓤) (A : Atoms 𝓤) (W : Given 𝓤 H A) (mem : Memory → SProp 𝓤) (run : Routine → Fun 𝓤) (𝓣 : Tables 𝓤 H) where
-  release-walks : Triple 𝓤 (𝓣 .C #barrier-row·result-of) (ResultOf 𝓤 H A mem run) → Triple 𝓤 (𝓣 .C #released·freed-at) (FreedAt 𝓤 H A mem run) → Walks 𝓤 H A release.ended stayed (WpFn 𝓤 H (𝓣 .C) (𝓣 .Λ) code.function) (release.clauses 𝓤 H A mem run)
-  release-walks result freed = walked 𝓤 H A release.ended stayed (release.clauses 𝓤 H A mem run) (WpFn 𝓤 H (𝓣 .C) (𝓣 .Λ) code.function)
-      (λ κs. (slice-vals, (LL.vals B.the-type B′.the-laws, tt))) (λ κs. (mut-slice-tells (named 0) (κs .0) R.the-row, (LL.tells B.the-type B′.the-laws, tt)))
+  release-walks : Triple 𝓤 (𝓣 .C #released·released-at) (ReleasedAt 𝓤 H A mem run) → Walks 𝓤 H A release.ended stayed (WpFn 𝓤 H (𝓣 .C) (𝓣 .Λ) code.function) (release.clauses 𝓤 H A mem run)
+  release-walks released = walked 𝓤 H A release.ended stayed (release.clauses 𝓤 H A mem run) (WpFn 𝓤 H (𝓣 .C) (𝓣 .Λ) code.function)
+      (λ κs. (slice-vals, (LL.vals F.the-type F′.the-laws, tt))) (λ κs. (mut-slice-tells (named 0) (κs .0) R.the-row, (LL.tells F.the-type F′.the-laws, tt)))
       (λ κs qs bounds a g are. via 𝓤 _ (fst∗ 𝓤 _ (emp 𝓤))
-      (walk 𝓤 H A W mem run (κs .0) (qs .0) (a .0 .ptr .0) (a .0 .ptr .1) (a .0 .name) (a .0 .now) (a .1 .0) (are .0 .0 .1) 𝓣 result freed (are .1 .0)))
+      (walk 𝓤 H A W mem run (κs .0) (qs .0) (a .0 .ptr .0) (a .0 .ptr .1) (a .0 .name) (a .0 .now) (a .1 .0) (are .0 .0 .1) 𝓣 released (are .1 .0)))
 
 pub release-spec : {M : Type 1} → stated.statement M
 unfolding code.routine tablesOf
 release-spec 𝓤 H 𝓜 𝓖 𝓡 =
     concluded 𝓤 H 𝓜 𝓖 𝓡 code.env release.ended stayed
-    (goes-slice 𝓤 H (𝓖 .A) (givenOf 𝓤 H 𝓜 𝓖) 1 0 tt (plain (λ _. R.the-row)), (goes-none 𝓤 H (𝓖 .A) (givenOf 𝓤 H 𝓜 𝓖) 1 (λ _. B.the-row) yes (λ κs x f. refl), tt))
+    (goes-slice 𝓤 H (𝓖 .A) (givenOf 𝓤 H 𝓜 𝓖) 1 0 tt (plain (λ _. R.the-row)), (goes-none 𝓤 H (𝓖 .A) (givenOf 𝓤 H 𝓜 𝓖) 1 (λ _. F.the-row) yes (λ κs x f. refl), tt))
     (release.clauses 𝓤 H (𝓖 .A) (𝓜 .mem) (𝓡 .run)) #released·release code.function (code.unfolded 𝓤 H 𝓜 𝓡)
     (release-walks 𝓤 H (𝓖 .A) (givenOf 𝓤 H 𝓜 𝓖) (𝓜 .mem) (𝓡 .run) (over 𝓤 H 𝓜 𝓖 𝓡 code.env)
-    (cited 𝓤 H (ResultOf 𝓤 H (𝓖 .A) (𝓜 .mem) (𝓡 .run)) 𝓜 𝓡 code.env #barrier-row·result-of result-of-def.routine code.calls-barrier-row·result-of (result-of-thm.met 𝓤 H 𝓜 𝓖 𝓡))
-    (cited 𝓤 H (FreedAt 𝓤 H (𝓖 .A) (𝓜 .mem) (𝓡 .run)) 𝓜 𝓡 code.env #released·freed-at freed-at-def.routine code.calls-released·freed-at (freed-at-thm.met 𝓤 H 𝓜 𝓖 𝓡)))
+    (cited 𝓤 H (ReleasedAt 𝓤 H (𝓖 .A) (𝓜 .mem) (𝓡 .run)) 𝓜 𝓡 code.env #released·released-at released-at-def.routine code.calls-released·released-at (released-at-thm.met 𝓤 H 𝓜 𝓖 𝓡)))
