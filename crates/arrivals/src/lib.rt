@@ -1,28 +1,31 @@
-// Sync, arrive and red: lines 4 to 10 of the refusal table, and what an arrival changes in the block.
+// Sync, arrive and red: lines 6 to 10 of the refusal table, and what an arrival changes in the block.
 use barriers::Moved;
 use block::BARRIER_COUNT;
 use block::Barrier;
 use block::Call;
 use block::MOST_WARPS;
 use block::Status;
-use block::Warp;
 ghost use mathlib.Core.Path.{_≡_};
-ghost use Rattle.barriers.specs.Steps.{callRefusal};
+ghost use Rattle.folds.specs.Folds.{lowest};
+ghost use Rattle.barriers.specs.Steps.{callLines};
 ghost use Rattle.barriers.specs.Changes.{arrivalMoved};
 
-// The lowest of lines 7 to 10 that applies to the call of warp w at a barrier of row r, in a block of so many warps, and 0 if none does.
-fn call_refusal(warps: u8, r: Barrier, w: u8, c: Call) -> u8
-    ensures { λ t. ⌜ t ≡ callRefusal warps r w c ⌝ }
+// The lowest of lines 6 to 10 that applies to the call of warp w at barrier k, whose row is r, in a block of so many warps, and 0 if none does.
+fn refusal(warps: u8, r: Barrier, w: u8, k: u8, c: Call) -> u8
+    ensures { λ n. ⌜ n ≡ lowest (callLines warps r w k c) ⌝ }
 {
+    if BARRIER_COUNT <= k {
+        return 6;
+    }
     let t = c.threads;
-    if barrier_row::bad_count(warps, t) {
+    if barrier_row::bad_threads(warps, t) {
         return 7;
     }
     let f = c.form;
     if block::form_number(f) == 0 {
         return 8;
     }
-    if barrier_row::differs(r, c) {
+    if barrier_row::clashes(r, c) {
         return 9;
     }
     if sets::has(r.arrived, w) {
@@ -31,20 +34,13 @@ fn call_refusal(warps: u8, r: Barrier, w: u8, c: Call) -> u8
     0
 }
 
-// Sync, arrive and red: what the arrival of warp w at barrier k changes in a block of so many warps, of which those of alive have not exited, where these are the rows of the warp and the barrier.
-pub fn arrival(warps: u8, alive: u32, warp: Warp, barrier: Barrier, w: u8, k: u8, c: Call) -> Moved
-    ensures { λ m. ⌜ m ≡ arrivalMoved warps alive warp barrier w k c ⌝ }
+// Sync, arrive and red: what the arrival of warp w at barrier k changes in a block of so many warps, of which those of alive have not exited, where this is the row of the barrier.
+pub fn arrival(warps: u8, alive: u32, barrier: Barrier, w: u8, k: u8, c: Call) -> Moved
+    ensures { λ m. ⌜ m ≡ arrivalMoved warps alive barrier w k c ⌝ }
 {
-    let n = barriers::warp_refusal(warps, warp, w);
+    let n = refusal(warps, barrier, w, k, c);
     if n != 0 {
         return barriers::refuse(n);
-    }
-    if BARRIER_COUNT <= k {
-        return barriers::refuse(6);
-    }
-    let m = call_refusal(warps, barrier, w, c);
-    if m != 0 {
-        return barriers::refuse(m);
     }
     let r = barrier_row::arrived_row(barrier, w, c);
     if barrier_row::completes(alive, r) {

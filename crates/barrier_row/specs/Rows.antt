@@ -17,14 +17,14 @@ abbrev pub countOf : Threads → ℕ
 countOf All = 0
 countOf (Given t) = t
 
--- line 7: threads given, and 0, no multiple of 32, or above 32 times the warps
-abbrev pub badCount : ℕ → Threads → Bool
-badCount n All = false
-badCount n (Given t) = eqb t 0 || (not (eqb (t % laneCount) 0) || ltb (laneCount * n) t)
+-- 7: threads given, and 0, no multiple of 32, or above 32 times the warps
+abbrev pub badThreads : ℕ → Threads → Bool
+badThreads n All = false
+badThreads n (Given t) = eqb t 0 || (not (eqb (t % laneCount) 0) || ltb (laneCount * n) t)
 
--- line 9: barrier active with another thread count or form
-abbrev pub differs : Barrier → Call → Bool
-differs r c =
+-- 9: barrier active with another thread count or form
+abbrev pub clashes : Barrier → Call → Bool
+clashes r c =
     not (isIdle (r .form))
     && (not (eqb (r .threads) (countOf (c .threads))) || not (eqb (formNumber (r .form)) (formNumber (c .form))))
 

@@ -8,7 +8,7 @@ ghost use mathlib.Core.Path.{_≡_};
 ghost use mathlib.Core.Bool.{cond};
 ghost use Prim.Native.Nat.{_+_};
 ghost use Rattle.sets.specs.Sets.{put};
-ghost use Rattle.barrier_row.specs.Rows.{countOf, badCount, differs as differsOf, upToLargest, arrivedRow, completes as completesOf, resultOf};
+ghost use Rattle.barrier_row.specs.Rows.{countOf, badThreads, clashes as clashesOf, upToLargest, arrivedRow, completes as completesOf, resultOf};
 
 // The largest number of a row, at which a sum stays.
 const LARGEST: u32 = 4294967295;
@@ -81,8 +81,8 @@ pub fn completes(alive: u32, r: Barrier) -> bool
 }
 
 // Whether line 7 applies to the thread count, in a block of so many warps.
-pub fn bad_count(warps: u8, t: Threads) -> bool
-    ensures { λ r. ⌜ r ≡ badCount warps t ⌝ }
+pub fn bad_threads(warps: u8, t: Threads) -> bool
+    ensures { λ r. ⌜ r ≡ badThreads warps t ⌝ }
 {
     match t {
         Threads::All => false,
@@ -94,8 +94,8 @@ pub fn bad_count(warps: u8, t: Threads) -> bool
 }
 
 // Whether the barrier's row is active with another thread count or form.
-pub fn differs(r: Barrier, c: Call) -> bool
-    ensures { λ t. ⌜ t ≡ differsOf r c ⌝ }
+pub fn clashes(r: Barrier, c: Call) -> bool
+    ensures { λ t. ⌜ t ≡ clashesOf r c ⌝ }
 {
     let f = r.form;
     let g = c.form;

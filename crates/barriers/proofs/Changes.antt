@@ -1,4 +1,4 @@
--- Laws of changes: which change is which turn of a block, and the tests that lead to an arrival's and to an exit's.
+-- Laws of changes: which change is which turn of a block, and the tests that lead to an arrival's.
 -- Assumes nothing.
 use mathlib.Core.Path.{_≡_, refl, sym, ap, _∙_}
 use mathlib.Core.Bool.{Bool, true, false, not, cond, _&&_, and-false, false≢true}
@@ -11,8 +11,8 @@ use lib.Bits.{bitAnd, bitOr, and-le-l}
 use lib.Dec.{eqb, ltb}
 use lib.ListN.{length, set}
 use lib.Seq.{set-out, getD-set-same, getD-set-other}
-use borrow.Author.Tests.{eq-eqb, ne-eqb, lt-ltb, le-ltb, ltb-true, ltb-false}
-use Rattle.folds.specs.Folds.{first, every, firsts}
+use borrow.Author.Tests.{eq-eqb, ne-eqb, ltb-true, ltb-false}
+use Rattle.folds.specs.Folds.{first, every, lowest, firsts}
 use Rattle.sets.specs.Sets.{has, put, part}
 use Rattle.sets.proofs.Sets.{has-none, has-and, has-put-own, has-put-other, has-setOf, setOf-lt, ext, part-has}
 use Rattle.block.specs.Tables.{mostWarps, barrierCount, freshWarp, idle, barrierAt, isIdle, isExited, liveOf}
@@ -25,9 +25,8 @@ use Rattle.block.specs.declared.Call.{Call}
 use Rattle.block.specs.declared.Verdict.{Verdict}
 use Rattle.block.specs.declared.Verdict.the-variants.{Accepted}
 use Rattle.block.specs.declared.Turn.{Turn}
-use Rattle.barriers.specs.Steps.{warpLine, warpRefusal, callRefusal, arrivalLine, arrivalRefusal, releasedWarp, releasedWarps, freedBy, completed, goesOn, refused, arrival, without, opened, exit}
-use Rattle.barriers.specs.Changes.{withStatus, changed, noneFreed, noChange, made, refusing, goingOn, completing, arriving, arrivalMoved, ArrivalSeen, firstOpening, exitMoved, ExitSeen}
-use Rattle.barriers.proofs.Steps.{warp-line, line-6, call-line}
+use Rattle.barriers.specs.Steps.{callLines, releasedWarp, releasedWarps, freedBy, completed, goesOn, refused, without, opened}
+use Rattle.barriers.specs.Changes.{withStatus, changed, noneFreed, noChange, made, refusing, goingOn, completing, arriving, arrivalMoved, ArrivalSeen, firstOpening, ExitSeen}
 
 -- where none waits, none is released
 freed-none : (n i : ℕ) (ws : List Warp) → firsts n i (releasedWarp noneFreed) ws ≡ ws
@@ -77,55 +76,36 @@ module _ (b : Block) (l : length (b .rows) ≡ mostWarps) (m : length (b .barrie
 -- ---- an arrival, by the rows that it looks at
 
 pub arrival-seen : ArrivalSeen
-unfolding arrivalMoved arrivalLine arrival arrivalRefusal
 arrival-seen b w k c l m =
-    let n = arrivalRefusal b w k c in
     let r = arrivedRow (barrierAt b k) w c in
-    go n r (eqb n 0) (completes (liveOf b) r) (c .waits)
+    go r (completes (liveOf b) r) (c .waits)
   where
-    go : (n : ℕ) (r : Barrier) (t u v : Bool)
-        → made b (cond t (cond u (completing mostWarps Ready k r) (cond v (goingOn w (Waiting k) k r) (goingOn mostWarps Ready k r))) (refusing n))
-        ≡ cond t (cond u (completed b k r) (goesOn b k r w v)) (refused b n)
-    go n r true true v = made-completed b l m k r
-    go n r true false true = made-waits b l m w k r
-    go n r true false false = made-arrives b l m w k r
-    go n r false u v = made-refused b l m n
+    go : (r : Barrier) (u v : Bool)
+        → made b (cond u (completing mostWarps Ready k r) (cond v (goingOn w (Waiting k) k r) (goingOn mostWarps Ready k r))) ≡ cond u (completed b k r) (goesOn b k r w v)
+    go r true v = made-completed b l m k r
+    go r false true = made-waits b l m w k r
+    go r false false = made-arrives b l m w k r
 
 -- its change, by the tests on the way to it
-module _ (n alive : ℕ) (x : Warp) (r : Barrier) (w k : ℕ) (c : Call) where
-  of-line : (m : ℕ) → m ≡ arrivalLine n x r w k c → (m ≡ 0 → ⊥) → refusing m ≡ arrivalMoved n alive x r w k c
+module _ (n alive : ℕ) (r : Barrier) (w k : ℕ) (c : Call) (m : ℕ) (said : m ≡ lowest (callLines n r w k c)) where
+  pub arrival-refused : (m ≡ 0 → ⊥) → refusing m ≡ arrivalMoved n alive r w k c
   unfolding arrivalMoved
-  of-line m e h = rw (← e, ne-eqb m 0 h)
+  arrival-refused h = rw (← said, ne-eqb m 0 h)
 
-  module _ (m : ℕ) (said : m ≡ warpLine n x w) where
-    pub arrival-no-warp : (m ≡ 0 → ⊥) → refusing m ≡ arrivalMoved n alive x r w k c
-    arrival-no-warp h = of-line m (warp-line n x r w k c m said h) h
+  module _ (none : m ≡ 0) (r′ : Barrier) (arrived : r′ ≡ arrivedRow r w c) where
+    arrival-accepted : arriving alive r′ w k (c .waits) ≡ arrivalMoved n alive r w k c
+    unfolding arrivalMoved
+    arrival-accepted = ap (λ (y : Barrier). arriving alive y w k (c .waits)) arrived ∙ rw (← said, none)
 
-    module _ (ready : m ≡ 0) where
-      pub arrival-no-barrier : barrierCount ≤ k → refusing 6 ≡ arrivalMoved n alive x r w k c
-      arrival-no-barrier h = of-line 6 (line-6 n x r w k c m said ready h) (λ z. omega arith)
+    pub arrival-completes : completes alive r′ ≡ true → completing mostWarps Ready k r′ ≡ arrivalMoved n alive r w k c
+    arrival-completes h = rw (← arrival-accepted, h)
 
-      module _ (there : k < barrierCount) (j : ℕ) (called : j ≡ callRefusal n r w c) where
-        line : j ≡ arrivalLine n x r w k c
-        line = called ∙ call-line n x r w k c m said ready there
+    module _ (goes : completes alive r′ ≡ false) where
+      pub arrival-waits : c .waits ≡ true → goingOn w (Waiting k) k r′ ≡ arrivalMoved n alive r w k c
+      arrival-waits h = rw (← arrival-accepted, goes, h)
 
-        pub arrival-no-call : (j ≡ 0 → ⊥) → refusing j ≡ arrivalMoved n alive x r w k c
-        arrival-no-call h = of-line j line h
-
-        module _ (none : j ≡ 0) (r′ : Barrier) (arrived : r′ ≡ arrivedRow r w c) where
-          arrival-accepted : arriving alive r′ w k (c .waits) ≡ arrivalMoved n alive x r w k c
-          unfolding arrivalMoved
-          arrival-accepted = ap (λ (y : Barrier). arriving alive y w k (c .waits)) arrived ∙ rw (← line, none)
-
-          pub arrival-completes : completes alive r′ ≡ true → completing mostWarps Ready k r′ ≡ arrivalMoved n alive x r w k c
-          arrival-completes h = rw (← arrival-accepted, h)
-
-          module _ (goes : completes alive r′ ≡ false) where
-            pub arrival-waits : c .waits ≡ true → goingOn w (Waiting k) k r′ ≡ arrivalMoved n alive x r w k c
-            arrival-waits h = rw (← arrival-accepted, goes, h)
-
-            pub arrival-goes-on : c .waits ≡ false → goingOn mostWarps Ready k r′ ≡ arrivalMoved n alive x r w k c
-            arrival-goes-on h = rw (← arrival-accepted, goes, h)
+      pub arrival-goes-on : c .waits ≡ false → goingOn mostWarps Ready k r′ ≡ arrivalMoved n alive r w k c
+      arrival-goes-on h = rw (← arrival-accepted, goes, h)
 
 -- ---- an exit, by the rows that it looks at
 
@@ -191,30 +171,12 @@ same-opened b w l =
     λ i. first barrierCount (λ k. every (not (isIdle (barrierAt b k .form)) ∷ eqb (barrierAt b k .threads) 0 ∷ part-without b w l (barrierAt b k .arrived) i ∷ []))
 
 pub exit-seen : ExitSeen
-unfolding exitMoved warpLine exit warpRefusal
 exit-seen b w l m =
-    let n = warpRefusal b w in
     let k = opened (without b w) in
-    rw (same-opened b w l) (go n k (eqb n 0) (ltb k barrierCount))
+    rw (same-opened b w l) (go k (ltb k barrierCount))
   where
-    go : (n k : ℕ) (t u : Bool)
-        → made b (cond t (cond u (completing w Exited k (barrierAt b k)) (goingOn w Exited barrierCount idle)) (refusing n))
-        ≡ cond t (cond u (completed (without b w) k (barrierAt b k)) (record { verdict = Accepted 0 false 0; block = without b w })) (refused b n)
-    go n k true true = refl
-    go n k true false = made-exited b l m w
-    go n k false u = made-refused b l m n
-
--- its change, by the tests on the way to it
-module _ (n : ℕ) (x : Warp) (r : Barrier) (w k m : ℕ) (said : m ≡ warpLine n x w) where
-  pub exit-no-warp : (m ≡ 0 → ⊥) → refusing m ≡ exitMoved n x r w k
-  unfolding exitMoved
-  exit-no-warp h = rw (← said, ne-eqb m 0 h)
-
-  module _ (ready : m ≡ 0) where
-    pub exit-completes : k < barrierCount → completing w Exited k r ≡ exitMoved n x r w k
-    unfolding exitMoved
-    exit-completes h = rw (← said, ready, lt-ltb k barrierCount h)
-
-    pub exit-alone : barrierCount ≤ k → goingOn w Exited barrierCount idle ≡ exitMoved n x r w k
-    unfolding exitMoved
-    exit-alone h = rw (← said, ready, le-ltb k barrierCount h)
+    go : (k : ℕ) (u : Bool)
+        → made b (cond u (completing w Exited k (barrierAt b k)) (goingOn w Exited barrierCount idle))
+        ≡ cond u (completed (without b w) k (barrierAt b k)) (record { verdict = Accepted 0 false 0; block = without b w })
+    go k true = refl
+    go k false = made-exited b l m w

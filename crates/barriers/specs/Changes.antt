@@ -6,9 +6,9 @@ use mathlib.Core.List.{List, [], _∷_}
 use Prim.Native.Nat.{ℕ}
 use lib.Dec.{eqb, ltb}
 use lib.ListN.{length, getD, set}
-use Rattle.folds.specs.Folds.{first, every}
+use Rattle.folds.specs.Folds.{first, every, lowest}
 use Rattle.sets.specs.Sets.{put, part}
-use Rattle.block.specs.Tables.{mostWarps, barrierCount, freshWarp, idle, warpAt, barrierAt, isIdle, liveOf}
+use Rattle.block.specs.Tables.{mostWarps, barrierCount, freshWarp, idle, barrierAt, isIdle, liveOf}
 use Rattle.barrier_row.specs.Rows.{arrivedRow, completes, resultOf}
 use Rattle.block.specs.declared.Status.{Status}
 use Rattle.block.specs.declared.Status.the-variants.{Ready, Waiting, Exited}
@@ -21,7 +21,7 @@ use Rattle.block.specs.declared.Turn.{Turn}
 use Rattle.barriers.specs.declared.Freed.{Freed}
 use Rattle.barriers.specs.declared.Change.{Change}
 use Rattle.barriers.specs.declared.Moved.{Moved}
-use Rattle.barriers.specs.Steps.{warpLine, arrivalLine, releasedWarps, freedBy, arrival, exit}
+use Rattle.barriers.specs.Steps.{callLines, releasedWarps, freedBy, arrives, exits}
 
 -- the warp rows with another status at w; past the last there is none to change
 abbrev pub withStatus : List Warp → ℕ → Status → List Warp
@@ -75,16 +75,17 @@ abbrev pub arriving : ℕ → Barrier → ℕ → ℕ → Bool → Moved
 arriving alive r w k waits =
     cond (completes alive r) (completing mostWarps Ready k r) (cond waits (goingOn w (Waiting k) k r) (goingOn mostWarps Ready k r))
 
--- what an arrival of warp w at barrier k changes in a block of so many warps, of which those of alive have not exited, where x is the row of the warp and r the row of the barrier
-unfoldable pub arrivalMoved : ℕ → ℕ → Warp → Barrier → ℕ → ℕ → Call → Moved
-arrivalMoved warps alive x r w k c =
-    cond (eqb (arrivalLine warps x r w k c) 0) (arriving alive (arrivedRow r w c) w k (c .waits)) (refusing (arrivalLine warps x r w k c))
+-- what an arrival of warp w at barrier k changes in a block of so many warps, of which those of alive have not exited, where r is the row of the barrier: line 6 to 10, or the arrival
+unfoldable pub arrivalMoved : ℕ → ℕ → Barrier → ℕ → ℕ → Call → Moved
+arrivalMoved warps alive r w k c =
+    let n = lowest (callLines warps r w k c) in
+    cond (eqb n 0) (arriving alive (arrivedRow r w c) w k (c .waits)) (refusing n)
 
--- of every block of 32 warp rows and sixteen barrier rows, that change makes the arrival's turn
+-- of every block of 32 warp rows and sixteen barrier rows, an arrival's change makes its turn
 abbrev pub ArrivalSeen : Type 0
 ArrivalSeen =
     (b : Block) (w k : ℕ) (c : Call) → length (b .rows) ≡ mostWarps → length (b .barriers) ≡ barrierCount
-    → made b (arrivalMoved (b .warps) (liveOf b) (warpAt b w) (barrierAt b k) w k c) ≡ arrival b w k c
+    → made b (arriving (liveOf b) (arrivedRow (barrierAt b k) w c) w k (c .waits)) ≡ arrives b w k c
 
 -- ---- an exit, by the rows that it looks at
 
@@ -100,13 +101,9 @@ firstOpening rs alive w = first barrierCount (λ k. opensFor (getD rs k idle) al
 abbrev pub exiting : Barrier → ℕ → ℕ → Moved
 exiting r w k = cond (ltb k barrierCount) (completing w Exited k r) (goingOn w Exited barrierCount idle)
 
--- what an exit of warp w changes in a block of so many warps, where x is the row of the warp, k the barrier that it completes, 16 for none, and r the row of that barrier
-unfoldable pub exitMoved : ℕ → Warp → Barrier → ℕ → ℕ → Moved
-exitMoved warps x r w k = cond (eqb (warpLine warps x w) 0) (exiting r w k) (refusing (warpLine warps x w))
-
--- of every block of 32 warp rows and sixteen barrier rows, that change at the first row that opens makes the exit's turn
+-- of every block of 32 warp rows and sixteen barrier rows, an exit's change at the first row that opens makes its turn
 abbrev pub ExitSeen : Type 0
 ExitSeen =
     (b : Block) (w : ℕ) → length (b .rows) ≡ mostWarps → length (b .barriers) ≡ barrierCount
     → let k = firstOpening (b .barriers) (liveOf b) w in
-    made b (exitMoved (b .warps) (warpAt b w) (barrierAt b k) w k) ≡ exit b w
+    made b (exiting (barrierAt b k) w k) ≡ exits b w

@@ -1,90 +1,69 @@
 -- What an exit and a named-barrier step do: document 01, "Named barriers", and lines 4 to 10 of its refusal table.
 -- Assumes nothing.
 use mathlib.Core.Bool.{Bool, true, false, not, cond}
-use mathlib.Core.List.{List, [], _∷_}
+use mathlib.Core.List.{List, [], _∷_, _++_}
 use Prim.Native.Nat.{ℕ}
 use lib.Dec.{eqb, leb, ltb}
 use lib.ListN.{set}
-use Rattle.folds.specs.Folds.{first, every, lowest, firsts}
+use Rattle.folds.specs.Folds.{first, every, Line, lowest, firsts}
 use Rattle.sets.specs.Sets.{has, part}
 use Rattle.block.specs.Tables.{mostWarps, barrierCount, idle, warpAt, barrierAt, isIdle, isReduction, isReady, liveOf}
-use Rattle.barrier_row.specs.Rows.{badCount, differs, arrivedRow, completes, resultOf}
+use Rattle.barrier_row.specs.Rows.{badThreads, clashes, arrivedRow, completes, resultOf}
 use Rattle.block.specs.declared.Status.the-variants.{Ready, Waiting, Exited}
 use Rattle.block.specs.declared.Warp.{Warp}
 use Rattle.block.specs.declared.Barrier.{Barrier}
 use Rattle.block.specs.declared.Block.{Block}
-use Rattle.block.specs.declared.Threads.{Threads}
 use Rattle.block.specs.declared.Call.{Call}
 use Rattle.block.specs.declared.Verdict.the-variants.{Refused, Accepted}
 use Rattle.block.specs.declared.Turn.{Turn}
 use Rattle.barriers.specs.declared.Freed.{Freed}
 
--- ---- refusals
+-- ---- lines 4 to 10 of the refusal table, by the rows of the warp and of the barrier in a block of so many warps
 
 -- 4: no such warp
-abbrev pub noSuchWarp : Block → ℕ → Bool
-noSuchWarp b w = leb (b .warps) w
+abbrev pub noSuchWarp : ℕ → ℕ → Bool
+noSuchWarp warps w = leb warps w
 
 -- 5: warp not ready
-abbrev pub notReady : Block → ℕ → Bool
-notReady b w = not (isReady (warpAt b w .status))
+abbrev pub notReady : Warp → Bool
+notReady x = not (isReady (x .status))
 
 -- 6: barrier above 15
 abbrev pub noSuchBarrier : ℕ → Bool
 noSuchBarrier k = leb barrierCount k
 
--- 7: a bad thread count
-abbrev pub badThreads : Block → Threads → Bool
-badThreads b t = badCount (b .warps) t
-
--- 9: barrier active with another thread count or form
-abbrev pub clashes : Block → ℕ → Call → Bool
-clashes b k c = differs (barrierAt b k) c
-
 -- 10: this warp has already arrived there
-abbrev pub alreadyArrived : Block → ℕ → ℕ → Bool
-alreadyArrived b k w = has (barrierAt b k .arrived) w
+abbrev pub alreadyArrived : Barrier → ℕ → Bool
+alreadyArrived r w = has (r .arrived) w
 
--- the lowest line that applies to any step of a warp, and 0 if none does
-unfoldable pub warpRefusal : Block → ℕ → ℕ
-warpRefusal b w = lowest ((noSuchWarp b w, 4) ∷ (notReady b w, 5) ∷ [])
+-- 4 and 5, of every step of a warp
+abbrev pub warpLines : ℕ → Warp → ℕ → List Line
+warpLines warps x w = (noSuchWarp warps w, 4) ∷ (notReady x, 5) ∷ []
 
--- the same of a warp's row, in a block of so many warps
-unfoldable pub warpLine : ℕ → Warp → ℕ → ℕ
-warpLine warps x w = lowest ((leb warps w, 4) ∷ (not (isReady (x .status)), 5) ∷ [])
-
--- the lowest line that applies to an arrival of warp w at barrier k, and 0 if none does; a form that is Idle stands for a bad selector
-unfoldable pub arrivalRefusal : Block → ℕ → ℕ → Call → ℕ
-arrivalRefusal b w k c =
-    lowest (
-    (noSuchWarp b w, 4)
-    ∷ (notReady b w, 5)
-    ∷ (noSuchBarrier k, 6)
-    ∷ (badThreads b (c .threads), 7)
+-- 6 to 10, of an arrival of warp w at barrier k; a form that is Idle stands for a bad selector
+abbrev pub callLines : ℕ → Barrier → ℕ → ℕ → Call → List Line
+callLines warps r w k c =
+    (noSuchBarrier k, 6)
+    ∷ (badThreads warps (c .threads), 7)
     ∷ (isIdle (c .form), 8)
-    ∷ (clashes b k c, 9)
-    ∷ (alreadyArrived b k w, 10)
+    ∷ (clashes r c, 9)
+    ∷ (alreadyArrived r w, 10)
     ∷ []
-    )
 
--- the same of the rows of the warp and of the barrier, in a block of so many warps
-unfoldable pub arrivalLine : ℕ → Warp → Barrier → ℕ → ℕ → Call → ℕ
-arrivalLine warps x r w k c =
-    lowest (
-    (leb warps w, 4)
-    ∷ (not (isReady (x .status)), 5)
-    ∷ (noSuchBarrier k, 6)
-    ∷ (badCount warps (c .threads), 7)
-    ∷ (isIdle (c .form), 8)
-    ∷ (differs r c, 9)
-    ∷ (has (r .arrived) w, 10)
-    ∷ []
-    )
+-- the lines of an exit, and those of an arrival, in a block
+abbrev pub exitLines : Block → ℕ → List Line
+exitLines b w = warpLines (b .warps) (warpAt b w) w
 
--- the lowest of lines 7 to 10, of a call of warp w at a barrier of row r, in a block of so many warps
-unfoldable pub callRefusal : ℕ → Barrier → ℕ → Call → ℕ
-callRefusal warps r w c =
-    lowest ((badCount warps (c .threads), 7) ∷ (isIdle (c .form), 8) ∷ (differs r c, 9) ∷ (has (r .arrived) w, 10) ∷ [])
+abbrev pub arrivalLines : Block → ℕ → ℕ → Call → List Line
+arrivalLines b w k c = exitLines b w ++ callLines (b .warps) (barrierAt b k) w k c
+
+-- a refused step leaves the block
+abbrev pub refused : Block → ℕ → Turn
+refused b n = record { verdict = Refused n; block = b }
+
+-- the refusal of the lowest of these lines, and where none applies what is done else
+abbrev pub unless : List Line → Block → Turn → Turn
+unless ls b t = cond (eqb (lowest ls) 0) t (refused b (lowest ls))
 
 -- ---- an arrival
 
@@ -124,13 +103,9 @@ arrives b w k c =
     let r = arrivedRow (barrierAt b k) w c in
     cond (completes (liveOf b) r) (completed b k r) (goesOn b k r w (c .waits))
 
--- a refused step leaves the block
-abbrev pub refused : Block → ℕ → Turn
-refused b n = record { verdict = Refused n; block = b }
-
 -- sync, arrive and red: warp w arrives at barrier k
 unfoldable pub arrival : Block → ℕ → ℕ → Call → Turn
-arrival b w k c = cond (eqb (arrivalRefusal b w k c) 0) (arrives b w k c) (refused b (arrivalRefusal b w k c))
+arrival b w k c = unless (arrivalLines b w k c) b (arrives b w k c)
 
 -- ---- exit
 
@@ -158,4 +133,4 @@ exits b w =
 
 -- warp w exits
 unfoldable pub exit : Block → ℕ → Turn
-exit b w = cond (eqb (warpRefusal b w) 0) (exits b w) (refused b (warpRefusal b w))
+exit b w = unless (exitLines b w) b (exits b w)

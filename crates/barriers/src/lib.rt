@@ -6,7 +6,8 @@ use block::Status;
 use block::Verdict;
 use block::Warp;
 ghost use mathlib.Core.Path.{_≡_};
-ghost use Rattle.barriers.specs.Steps.{warpLine};
+ghost use Rattle.folds.specs.Folds.{lowest};
+ghost use Rattle.barriers.specs.Steps.{warpLines};
 ghost use Rattle.barriers.specs.Changes.{noneFreed, noChange, refusing, goingOn, completing};
 
 // A release: the set of warps that it makes ready, and the result that they get if it gives one.
@@ -33,7 +34,7 @@ pub struct Moved {
 
 // The lowest of lines 4 and 5 that applies to a step of warp w, whose row is this, in a block of so many warps, and 0 if none does.
 pub fn warp_refusal(warps: u8, row: Warp, w: u8) -> u8
-    ensures { λ r. ⌜ r ≡ warpLine warps row w ⌝ }
+    ensures { λ r. ⌜ r ≡ lowest (warpLines warps row w) ⌝ }
 {
     if warps <= w {
         return 4;

@@ -9,8 +9,7 @@ use borrow.Author.Tests.{eqb-true, eqb-false, lt-ltb, ltb-false, le-leb, not-fal
 use Rattle.sets.specs.Sets.{has, put, size}
 use Rattle.sets.proofs.Sets.{has-none, has-put, has-put-own, put-lt, part-has, part-of, size-le, size-none, size-put}
 use Rattle.block.specs.Tables.{mostWarps, laneCount, barrierAt, formNumber, isIdle, isPlain, isReduction}
-use Rattle.barrier_row.specs.Rows.{countOf, largest, upToLargest, arrivedRow, completes}
-use Rattle.barriers.specs.Steps.{badThreads}
+use Rattle.barrier_row.specs.Rows.{countOf, badThreads, largest, upToLargest, arrivedRow, completes}
 use Rattle.block.specs.declared.Barrier.{Barrier}
 use Rattle.block.specs.declared.Block.{Block}
 use Rattle.block.specs.declared.Threads.{Threads}
@@ -38,15 +37,15 @@ sum-fits n h = rw (le-leb n largest h)
 
 module _ (b : Block) where
   -- a count that is not refused is all, or a multiple of 32 up to 32 times the warps
-  count-multiple : (t : Threads) → badThreads b t ≡ false → eqb (countOf t) 0 ≡ false → countOf t % laneCount ≡ 0
+  count-multiple : (t : Threads) → badThreads (b .warps) t ≡ false → eqb (countOf t) 0 ≡ false → countOf t % laneCount ≡ 0
   count-multiple All e z = absurd (false≢true (sym z))
   count-multiple (Given t) e z = eqb-true (t % laneCount) 0 (not-false _ (neither _ _ (neither (eqb t 0) _ e .1) .0))
 
-  count-most : (t : Threads) → badThreads b t ≡ false → countOf t ≤ laneCount * b .warps
+  count-most : (t : Threads) → badThreads (b .warps) t ≡ false → countOf t ≤ laneCount * b .warps
   count-most All e = omega arith
   count-most (Given t) e = ltb-false (laneCount * b .warps) t (neither (not (eqb (t % laneCount) 0)) _ (neither (eqb t 0) _ e .1) .1)
 
-  count-all : (t : Threads) → badThreads b t ≡ false → eqb (countOf t) 0 ≡ true → t ≡ All
+  count-all : (t : Threads) → badThreads (b .warps) t ≡ false → eqb (countOf t) 0 ≡ true → t ≡ All
   count-all All e z = refl
   count-all (Given t) e z = absurd (false≢true (sym (neither (eqb t 0) _ e .0) ∙ z))
 

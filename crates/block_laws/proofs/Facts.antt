@@ -7,11 +7,12 @@ use Prim.Native.Nat.{ℕ, _*_, _%_, _^_, _<_, _≤_}
 use native.Mathlib.Decide.{ℕ-discrete}
 use lib.Dec.{eqb, leb}
 use borrow.Author.Tests.{eq-eqb, ne-eqb, eqb-true, eqb-false, lt-ltb, ltb-true, le-leb, leb-true, leb-false, not-true, not-false}
-use Rattle.folds.specs.Folds.{every}
+use Rattle.folds.specs.Folds.{every, lowest}
 use Rattle.folds.proofs.Folds.{every-at, all-at, all-of, none-at, alike, alike-of}
 use Rattle.sets.specs.Sets.{has, part, within, size}
 use Rattle.block.specs.Tables.{mostWarps, laneCount, barrierCount, warpAt, barrierAt, liveOf, isIdle, isPlain, isReduction, isReady, waitsAt, setsInside, idleZero, activeArrived, activeCount, countOpen, allOpen, reductionWaits, plainNone, warpSound, rowSound, rowsSound, agreeing, soundBlock}
-use Rattle.barriers.specs.Steps.{badThreads, clashes, warpRefusal, arrivalRefusal}
+use Rattle.barrier_row.specs.Rows.{badThreads, clashes}
+use Rattle.barriers.specs.Steps.{exitLines, arrivalLines}
 use Rattle.block.specs.declared.Status.{Status}
 use Rattle.block.specs.declared.Status.the-variants.{Ready, Waiting, Exited}
 use Rattle.block.specs.declared.Barrier.{Barrier}
@@ -189,9 +190,9 @@ pub record Free (b : Block) (w : ℕ) : Type 0 where
 pub record Joins (b : Block) (w k : ℕ) (c : Call) : Type 0 where
   pub free : Free b w
   pub barrier : k < barrierCount
-  pub count : badThreads b (c .threads) ≡ false
+  pub count : badThreads (b .warps) (c .threads) ≡ false
   pub form : isIdle (c .form) ≡ false
-  pub fits : clashes b k c ≡ false
+  pub fits : clashes (barrierAt b k) c ≡ false
   pub new : has (barrierAt b k .arrived) w ≡ false
 
 ready-is : (s : Status) → isReady s ≡ true → s ≡ Ready
@@ -199,14 +200,12 @@ ready-is Ready e = refl
 ready-is (Waiting at) e = cc
 ready-is Exited e = cc
 
-pub free-says : (b : Block) (w : ℕ) → warpRefusal b w ≡ 0 → Free b w
-unfolding warpRefusal
+pub free-says : (b : Block) (w : ℕ) → lowest (exitLines b w) ≡ 0 → Free b w
 free-says b w e =
     let none = none-at _ refl e in
     record { warp = leb-false _ _ (none 0); ready = ready-is _ (not-false _ (none 1)) }
 
-pub joins-says : (b : Block) (w k : ℕ) (c : Call) → arrivalRefusal b w k c ≡ 0 → Joins b w k c
-unfolding arrivalRefusal
+pub joins-says : (b : Block) (w k : ℕ) (c : Call) → lowest (arrivalLines b w k c) ≡ 0 → Joins b w k c
 joins-says b w k c e =
     let none = none-at _ refl e in
     record {

@@ -4,9 +4,10 @@ use mathlib.Core.Path.{_≡_}
 use mathlib.Core.Bool.{Bool, true, false, cond, _&&_, _||_}
 use Prim.Native.Nat.{ℕ, _<_}
 use lib.Dec.{eqb}
+use Rattle.folds.specs.Folds.{lowest}
 use Rattle.sets.specs.Sets.{has, less}
 use Rattle.block.specs.Tables.{mostWarps, barrierCount, warpAt, barrierAt, isReduction, liveOf, soundBlock}
-use Rattle.barriers.specs.Steps.{warpRefusal, arrival, without, opens, opened, exit}
+use Rattle.barriers.specs.Steps.{exitLines, arrival, without, opens, opened, exit}
 use Rattle.block.specs.declared.Status.the-variants.{Ready}
 use Rattle.block.specs.declared.Form.{Form}
 use Rattle.block.specs.declared.Block.{Block}
@@ -31,7 +32,7 @@ pub record RefusedLeave : Type 0 where
 -- in sound tables an exit completes at most one barrier
 abbrev pub ExitCompletesOne : Type 0
 ExitCompletesOne =
-    (b : Block) (w j k : ℕ) → soundBlock b ≡ true → warpRefusal b w ≡ 0 → j < barrierCount → k < barrierCount
+    (b : Block) (w j k : ℕ) → soundBlock b ≡ true → lowest (exitLines b w) ≡ 0 → j < barrierCount → k < barrierCount
     → opens (without b w) j ≡ true → opens (without b w) k ≡ true → j ≡ k
 
 -- a turn that completes a barrier releases the warps of which the test holds, and no other

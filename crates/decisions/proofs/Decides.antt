@@ -1,10 +1,14 @@
--- Laws of what a step decides: each kind of decision by the tests on the way to it, and what is left of a block.
+-- Laws of what a step decides: by the tests on the way to it, and what is left of a block.
 -- Assumes nothing.
 use mathlib.Core.Path.{_≡_, refl, sym, ap, _∙_}
 use mathlib.Core.Bool.{Bool, true, false, not, cond}
-use Prim.Native.Nat.{ℕ, _/_}
+use mathlib.Core.List.{List, [], _∷_}
+use Prim.Native.Nat.{ℕ, zero, suc, _/_}
+use native.Mathlib.Omega.{arith}
 use lib.Dec.{eqb}
-use borrow.Author.Tests.{eq-eqb, ne-eqb, eqb-true, eqb-false}
+use borrow.Author.Tests.{ne-eqb}
+use Rattle.folds.specs.Folds.{Line, lowest}
+use Rattle.folds.proofs.Lowest.{line-holds, line-passed, joined-first, joined-rest}
 use Rattle.steps.specs.declared.BarrierStep.{BarrierStep}
 use Rattle.steps.specs.declared.ObjectStep.{ObjectStep}
 use Rattle.steps.specs.declared.Step.{Step}
@@ -16,139 +20,133 @@ use Rattle.object.specs.declared.Answer.the-variants as answer
 use Rattle.object.specs.declared.Count.{Count}
 use Rattle.object.specs.declared.Count.the-variants.{NoToken, Pending}
 use Rattle.object.specs.Tokens.{tooLarge, pendingIn, pendingCount}
-use Rattle.object.specs.Row.{stepRow}
+use Rattle.object.specs.Row as row
 use Rattle.block.specs.Tables.{liveOf}
 use Rattle.block.specs.declared.Block.{Block}
 use Rattle.block.specs.declared.Call.{Call}
 use Rattle.block.specs.declared.Verdict.{Verdict}
-use Rattle.block.specs.declared.Verdict.the-variants.{Refused, Accepted}
+use Rattle.block.specs.declared.Verdict.the-variants.{Accepted}
+use Rattle.barrier_row.specs.Rows.{arrivedRow}
 use Rattle.barriers.specs.declared.Moved.{Moved}
-use Rattle.barriers.specs.Steps.{warpLine, warpRefusal}
-use Rattle.barriers.specs.Changes.{noChange, arrivalMoved, exitMoved}
-use Rattle.barriers.proofs.Steps.{row-line}
+use Rattle.barriers.specs.Steps.{warpLines, callLines}
+use Rattle.barriers.specs.Changes as changes
 use Rattle.barriers.proofs.Changes.{unchanged, arrival-seen, exit-seen}
 use Rattle.block_laws.specs.Sound.{Shaped}
+use Rattle.tables.specs.declared.Seen.{Seen}
 use Rattle.tables.specs.declared.Taken.{Taken}
-use Rattle.tables.specs.Tables.{View}
-use Rattle.tables.specs.Refusals.{callOf, actOf, offPlace}
-use Rattle.tables.specs.Parts.{leaves, blockTaken, answered, ifReady, objectTaken, pendingTaken}
-use Rattle.tables.specs.Effect.{taken}
-use Rattle.tables.proofs.Parts.{not-ready, is-ready}
-use Rattle.tables.proofs.Chains.{taken-unsound, taken-exit, taken-barrier, taken-object, taken-pending}
-use Rattle.decisions.specs.declared.Seen.{Seen}
+use Rattle.tables.specs.Tables.{View, seenOf}
+use Rattle.tables.specs.Refusals.{callOf, actOf, badAddress, table, kindLines, refusal}
+use Rattle.tables.specs.Effect.{blockTaken, effect, refused, taken}
+use Rattle.tables.proofs.Chains.{barrier-lines}
 use Rattle.decisions.specs.declared.Decided.{Decided}
-use Rattle.decisions.specs.Decides.{refusing, inBlock, answering, unless, objectDecided, pendingDecided, seenOf, soundDecided, decidedOn, leftOf, DecisionSeen}
+use Rattle.decisions.specs.Decides.{refusing, inBlock, answering, unless, acting, counting, objectDecided, pendingDecided, does, kindDecided, decidedOn, leftOf, DecisionSeen}
 
 -- ---- a decision, by the tests on the way to it
 
-module _ (n : ℕ) (o : Object) (a : ℕ) (x : ObjectStep) where
-  pub object-no-warp : (n ≡ 0 → ⊥) → refusing o n ≡ objectDecided n o a x
+-- a number that is given is refused
+module _ (ls : List Line) (o : Object) (d : Decided) where
+  given : (n : ℕ) → n ≡ lowest ls → (n ≡ 0 → ⊥) → refusing o n ≡ unless ls o d
+  given n e h = rw (← e, ne-eqb n 0 h)
+
+module _ (o : Object) (a : ℕ) (x : ObjectStep) where
+  pub object-off-place : badAddress a ≡ true → refusing o 11 ≡ objectDecided o a x
   unfolding objectDecided
-  object-no-warp h = rw (ne-eqb n 0 h)
+  object-off-place e = given _ o _ 11 (line-holds _ _ _ e) (λ z. omega arith)
 
-  module _ (none : n ≡ 0) where
-    pub object-off-place : offPlace a ≡ true → refusing o 11 ≡ objectDecided n o a x
-    unfolding objectDecided
-    object-off-place e = rw (eq-eqb n 0 none, e)
-
-    pub object-on-place : offPlace a ≡ false → answering o (stepRow o (a / 8) (actOf x)) ≡ objectDecided n o a x
-    unfolding objectDecided
-    object-on-place e = rw (eq-eqb n 0 none, e)
+  pub object-on-place : badAddress a ≡ false → answering o (row.stepRow o (a / 8) (actOf x)) ≡ objectDecided o a x
+  unfolding objectDecided row.stepRow lowest
+  object-on-place e = rw e (go (row.refusal o (a / 8) (actOf x)))
+    where
+      go : (n : ℕ) → answering o (row.unless n (answer.Accepted (row.rowAfter o (actOf x)) (row.valueOf o (a / 8) (actOf x)) (row.ends o (actOf x))))
+          ≡ cond (eqb n 0) (acting o a x) (refusing o n)
+      go zero = refl
+      go (suc n) = rw (ne-eqb (suc n) 0 (λ z. omega arith))
 
 -- a count, which leaves the block and the row
-abbrev counting : Object → Count → Decided
-counting o (NoToken n) = refusing o n
-counting o (Pending n) = record { verdict = Accepted n false 0; change = noChange; object = o }
+abbrev counted : Object → Count → Decided
+counted o (NoToken n) = refusing o n
+counted o (Pending n) = record { verdict = Accepted n false 0; change = changes.noChange; object = o }
 
-module _ (n : ℕ) (o : Object) (t : ℕ) where
-  pub pending-no-warp : (n ≡ 0 → ⊥) → refusing o n ≡ pendingDecided n o t
-  unfolding pendingDecided
-  pending-no-warp h = rw (ne-eqb n 0 h)
+pub pending-counts : (o : Object) (t : ℕ) (c : Count) → c ≡ pendingCount t → counted o c ≡ pendingDecided o t
+unfolding pendingDecided lowest
+pending-counts o t c e = ap (counted o) e ∙ go (tooLarge t)
+  where
+    go : (u : Bool) → counted o (cond u (NoToken 19) (Pending (pendingIn t))) ≡ cond (eqb (cond u 19 0) 0) (counting o t) (refusing o (cond u 19 0))
+    go true = refl
+    go false = refl
 
-  pub pending-counts : n ≡ 0 → (c : Count) → c ≡ pendingCount t → counting o c ≡ pendingDecided n o t
-  unfolding pendingDecided
-  pending-counts none c e = ap (counting o) e ∙ go (tooLarge t) ∙ rw (eq-eqb n 0 none)
+-- each kind, by its own lines
+module _ (v : Seen) (o : Object) (w : ℕ) (x : Op) where
+  abbrev step : Step
+  step = record { warp = w; op = x }
+
+  pub kind-exit : (m : Moved) → m ≡ changes.exiting (v .barrier) w (v .at) → x ≡ op.Exit → inBlock m o ≡ kindDecided v o step
+  unfolding kindDecided lowest
+  kind-exit m e kind = rw (kind, e)
+
+  pub kind-barrier : (m : Moved) (k : ℕ) (b : BarrierStep) (c : Call) → m ≡ changes.arrivalMoved (v .warps) (v .live) (v .barrier) w k c → c ≡ callOf b → x ≡ op.Barrier k b
+      → inBlock m o ≡ kindDecided v o step
+  unfolding kindDecided changes.arrivalMoved
+  kind-barrier m k b c e call kind =
+      let n = lowest (callLines (v .warps) (v .barrier) w k (callOf b)) in
+      rw (kind, e, call, barrier-lines v o w k b) (go (changes.arriving (v .live) (arrivedRow (v .barrier) w (callOf b)) w k (callOf b .waits)) n (eqb n 0))
     where
-      go : (u : Bool) → counting o (cond u (NoToken 19) (Pending (pendingIn t))) ≡ cond u (refusing o 19) (counting o (Pending (pendingIn t)))
-      go true = refl
-      go false = refl
+      go : (y : Moved) (n : ℕ) (t : Bool) → inBlock (cond t y (changes.refusing n)) o ≡ cond t (inBlock y o) (refusing o n)
+      go y n true = refl
+      go y n false = refl
 
+  pub kind-object : (a : ℕ) (y : ObjectStep) → x ≡ op.Object a y → objectDecided o a y ≡ kindDecided v o step
+  unfolding kindDecided objectDecided lowest
+  kind-object a y kind = rw kind
+
+  pub kind-pending : (t : ℕ) → x ≡ op.PendingCount t → pendingDecided o t ≡ kindDecided v o step
+  unfolding kindDecided pendingDecided lowest
+  kind-pending t kind = rw kind
+
+-- the table: 3, 4 and 5, then the lines of the kind
 module _ (v : Seen) (o : Object) (s : Step) where
+  abbrev firstThree : List Line
+  firstThree = (not (v .sound), 3) ∷ warpLines (v .warps) (v .warp) (s .warp)
+
   pub decided-unsound : not (v .sound) ≡ true → refusing o 3 ≡ decidedOn v o s
   unfolding decidedOn
-  decided-unsound e = rw e
+  decided-unsound e = given _ o _ 3 (line-holds _ _ _ e) (λ z. omega arith)
 
-  module _ (sound : not (v .sound) ≡ false) where
-    decided-sound : (x : Op) → s .op ≡ x → soundDecided v o (s .warp) x ≡ decidedOn v o s
+  module _ (sound : not (v .sound) ≡ false) (n : ℕ) (line : n ≡ lowest (warpLines (v .warps) (v .warp) (s .warp))) where
+    warp-line : n ≡ lowest firstThree
+    warp-line = line-passed _ _ _ sound line
+
+    pub decided-no-warp : (n ≡ 0 → ⊥) → refusing o n ≡ decidedOn v o s
     unfolding decidedOn
-    decided-sound x kind = rw (sound, kind)
+    decided-no-warp h = given _ o _ n (joined-first firstThree (kindLines v o s) refl warp-line h) h
 
-    pub decided-exit : (m : Moved) → m ≡ exitMoved (v .warps) (v .warp) (v .barrier) (s .warp) (v .at) → s .op ≡ op.Exit → inBlock m o ≡ decidedOn v o s
-    decided-exit m e kind = ap (λ (y : Moved). inBlock y o) e ∙ decided-sound op.Exit kind
-
-    pub decided-barrier : (m : Moved) (k : ℕ) (b : BarrierStep) (c : Call) → m ≡ arrivalMoved (v .warps) (v .live) (v .warp) (v .barrier) (s .warp) k c → c ≡ callOf b → s .op ≡ op.Barrier k b
-        → inBlock m o ≡ decidedOn v o s
-    decided-barrier m k b c e call kind =
-        ap (λ (y : Moved). inBlock y o) (e ∙ ap (arrivalMoved (v .warps) (v .live) (v .warp) (v .barrier) (s .warp) k) call) ∙ decided-sound (op.Barrier k b) kind
-
-    module _ (n : ℕ) (line : n ≡ warpLine (v .warps) (v .warp) (s .warp)) where
-      pub decided-object : (a : ℕ) (x : ObjectStep) → s .op ≡ op.Object a x → objectDecided n o a x ≡ decidedOn v o s
-      decided-object a x kind = ap (λ (k : ℕ). objectDecided k o a x) line ∙ decided-sound (op.Object a x) kind
-
-      pub decided-pending : (t : ℕ) → s .op ≡ op.PendingCount t → pendingDecided n o t ≡ decidedOn v o s
-      decided-pending t kind = ap (λ (k : ℕ). pendingDecided k o t) line ∙ decided-sound (op.PendingCount t) kind
+    pub decided-kind : n ≡ 0 → kindDecided v o s ≡ decidedOn v o s
+    unfolding decidedOn kindDecided
+    decided-kind none = rw (joined-rest firstThree (kindLines v o s) refl (sym warp-line ∙ none))
 
 -- ---- what is left of a block
 
-module _ (b : Block) (shaped : Shaped b) (o : Object) where
+module _ (b : Block) (shaped : Shaped b) (sound : Bool) (o : Object) where
+  abbrev view : View
+  view = record { sound = sound; block = b; object = o }
+
   -- no change leaves the block
-  left-still : (v : Verdict) (x : Object) → leftOf b (record { verdict = v; change = noChange; object = x }) ≡ record { verdict = v; block = b; object = x }
+  left-still : (v : Verdict) (x : Object) → leftOf b (record { verdict = v; change = changes.noChange; object = x }) ≡ record { verdict = v; block = b; object = x }
   left-still v x = λ j. record { verdict = v; block = unchanged b (shaped .rows) (shaped .barriers) j; object = x }
 
-  left-refused : (n : ℕ) → leftOf b (refusing o n) ≡ leaves b o n
-  left-refused n = left-still (Refused n) o
-
-  left-answered : (a : Answer) → leftOf b (answering o a) ≡ answered b o a
-  left-answered (answer.Refused n) = left-refused n
-  left-answered (answer.Accepted next value done) = left-still (Accepted value done 0) next
-
-  module _ (w n : ℕ) (line : n ≡ warpRefusal b w) where
-    -- the line of the warp, before the rest of its step
-    left-unless : (d : Decided) (x : Taken) → leftOf b d ≡ x → leftOf b (unless n o d) ≡ ifReady b o w x
-    left-unless d x left = go (eqb n 0) refl
-      where
-        go : (t : Bool) → eqb n 0 ≡ t → leftOf b (cond t d (refusing o n)) ≡ ifReady b o w x
-        go true e = left ∙ is-ready b o w x n line (eqb-true n 0 e)
-        go false e = left-refused n ∙ not-ready b o w x n line (eqb-false n 0 e)
-
-    left-object : (a : ℕ) (x : ObjectStep) → leftOf b (objectDecided n o a x) ≡ ifReady b o w (objectTaken b o a x)
-    unfolding objectDecided
-    left-object a x = left-unless _ _ (go (offPlace a) (stepRow o (a / 8) (actOf x)))
-      where
-        go : (t : Bool) (y : Answer) → leftOf b (cond t (refusing o 11) (answering o y)) ≡ cond t (leaves b o 11) (answered b o y)
-        go true y = left-refused 11
-        go false y = left-answered y
-
-    left-pending : (t : ℕ) → leftOf b (pendingDecided n o t) ≡ ifReady b o w (pendingTaken b o t)
-    unfolding pendingDecided
-    left-pending t = left-unless _ _ (go (tooLarge t) (pendingIn t))
-      where
-        go : (u : Bool) (k : ℕ) → leftOf b (cond u (refusing o 19) (counting o (Pending k))) ≡ cond u (leaves b o 19) (record { verdict = Accepted k false 0; block = b; object = o })
-        go true k = left-refused 19
-        go false k = left-still (Accepted k false 0) o
-
-  -- what the step sees
-  abbrev view : Bool → View
-  view t = record { sound = t; block = b; object = o }
-
-  -- each kind of step in sound tables
-  left-sound : (w : ℕ) (x : Op) → leftOf b (soundDecided (seenOf true (liveOf b) b (record { warp = w; op = x })) o w x) ≡ taken (view true) (record { warp = w; op = x })
-  left-sound w op.Exit = ap (blockTaken o) (exit-seen b w (shaped .rows) (shaped .barriers)) ∙ sym (taken-exit (view true) w)
-  left-sound w (op.Barrier k c) = ap (blockTaken o) (arrival-seen b w k _ (shaped .rows) (shaped .barriers)) ∙ sym (taken-barrier (view true) w k c)
-  left-sound w (op.Object a x) = left-object w _ (row-line b w) a x ∙ sym (taken-object (view true) w a x)
-  left-sound w (op.PendingCount t) = left-pending w _ (row-line b w) t ∙ sym (taken-pending (view true) w t)
+  -- what each kind does leaves its effect
+  left-does : (w : ℕ) (x : Op) → leftOf b (does (seenOf sound (liveOf b) b (record { warp = w; op = x })) o w x) ≡ effect view w x
+  left-does w op.Exit = ap (blockTaken o) (exit-seen b w (shaped .rows) (shaped .barriers))
+  left-does w (op.Barrier k c) = ap (blockTaken o) (arrival-seen b w k (callOf c) (shaped .rows) (shaped .barriers))
+  left-does w (op.Object a x) = left-still _ _
+  left-does w (op.PendingCount t) = left-still _ o
 
 pub decision-seen : DecisionSeen
-unfolding decidedOn
-decision-seen b shaped true o s = left-sound b shaped o (s .warp) (s .op)
-decision-seen b shaped false o s = left-refused b shaped o 3 ∙ taken-unsound (view b shaped o false) s refl
+unfolding decidedOn taken refusal
+decision-seen b shaped sound o s = go (lowest (table (seenOf sound (liveOf b) b s) o s)) (eqb (lowest (table (seenOf sound (liveOf b) b s) o s)) 0)
+  where
+    go : (n : ℕ) (t : Bool)
+        → leftOf b (cond t (does (seenOf sound (liveOf b) b s) o (s .warp) (s .op)) (refusing o n))
+        ≡ cond t (effect (view b shaped sound o) (s .warp) (s .op)) (refused (view b shaped sound o) n)
+    go n true = left-does b shaped sound o (s .warp) (s .op)
+    go n false = left-still b shaped sound o _ o

@@ -2,28 +2,19 @@
 use barriers::Change;
 use barriers::Moved;
 use block::BARRIER_COUNT;
-use block::Barrier;
 use block::Verdict;
-use block::Warp;
 use object::Answer;
 use object::Count;
 use object::Object;
 use steps::ObjectStep;
 use steps::Op;
 use steps::Step;
+use tables::LAST_ADDRESS;
+use tables::OBJECT_SIZE;
+use tables::Seen;
 ghost use mathlib.Core.Path.{_≡_};
-ghost use Rattle.tables.specs.Effect.{isExit};
-ghost use Rattle.decisions.specs.Decides.{refusing, inBlock, answering, objectDecided, pendingDecided, namedBarrier, decidedOn};
-
-// What a step sees of the tables: whether they are sound; how many warps the block has, and which of them have not exited; the row of its warp; the barrier whose row it may change, 16 for none, and that row.
-pub struct Seen {
-    pub sound: bool,
-    pub warps: u8,
-    pub live: u32,
-    pub warp: Warp,
-    pub at: u8,
-    pub barrier: Barrier,
-}
+ghost use Rattle.tables.specs.Tables.{isExit, namedBarrier};
+ghost use Rattle.decisions.specs.Decides.{refusing, inBlock, answering, objectDecided, pendingDecided, kindDecided, decidedOn};
 
 // What a step decides: its verdict, what it changes in the block, and the row of the object that it names.
 pub struct Decided {
@@ -75,26 +66,23 @@ fn answer(row: Object, a: Answer) -> Decided
     }
 }
 
-// An object step at address a, of a warp whose line is n, or 0 if it has none.
-fn on_object(n: u8, row: Object, a: u16, o: ObjectStep) -> Decided
-    ensures { λ r. ⌜ r ≡ objectDecided n row a o ⌝ }
+// An object step at address a: line 11, or what the object answers.
+fn on_object(row: Object, a: u16, o: ObjectStep) -> Decided
+    ensures { λ r. ⌜ r ≡ objectDecided row a o ⌝ }
 {
-    if n != 0 {
-        return refuse(row, n);
-    }
-    if (a % 8 != 0) | (504 < a) {
+    if (a % OBJECT_SIZE != 0) | (LAST_ADDRESS < a) {
         return refuse(row, 11);
     }
-    answer(row, acts::step(row, (a / 8) as u8, asked::act_of(o)))
+    answer(
+        row,
+        acts::step(row, (a / OBJECT_SIZE) as u8, asked::act_of(o)),
+    )
 }
 
-// A pending count, of a warp whose line is n, or 0 if it has none.
-fn pending(n: u8, row: Object, token: u64) -> Decided
-    ensures { λ r. ⌜ r ≡ pendingDecided n row token ⌝ }
+// A pending count: line 19, or the count.
+fn pending(row: Object, token: u64) -> Decided
+    ensures { λ r. ⌜ r ≡ pendingDecided row token ⌝ }
 {
-    if n != 0 {
-        return refuse(row, n);
-    }
     match object::pending_count(token) {
         Count::NoToken(n) => refuse(row, n),
         Count::Pending(count) => Decided {
@@ -133,7 +121,23 @@ pub fn named_barrier(op: Op) -> u8
     }
 }
 
-// The whole step, on what it sees of the tables and the row of the object that it names: its verdict, the row, and what it changes in the block. That is line 3 unless the tables are sound, and else what the step's kind decides; of a block that is seen so it leaves what the step over whole tables leaves (`decision-seen`).
+// A step past lines 3, 4 and 5: the lowest line of its kind, or where none applies what it does.
+fn of_kind(seen: Seen, row: Object, w: u8, op: Op) -> Decided
+    ensures { λ r. ⌜ r ≡ kindDecided seen row (record { warp = w; op = op }) ⌝ }
+{
+    let barrier = seen.barrier;
+    match op {
+        Op::Exit => in_block(exits::exit(barrier, w, seen.at), row),
+        Op::Barrier(k, s) => in_block(
+            arrivals::arrival(seen.warps, seen.live, barrier, w, k, asked::call_of(s)),
+            row,
+        ),
+        Op::Object(a, o) => on_object(row, a, o),
+        Op::PendingCount(t) => pending(row, t),
+    }
+}
+
+// The whole step, on what it sees of the tables and the row of the object that it names: its verdict, the row, and what it changes in the block. That is the lowest line of the table that applies: 3, 4 and 5 for every kind, then those of its kind; and where none does, what the step does. Of a block that is seen so it leaves what the step over whole tables leaves (`decision-seen`).
 pub fn decide(seen: Seen, row: Object, step: Step) -> Decided
     ensures { λ r. ⌜ r ≡ decidedOn seen row step ⌝ }
 {
@@ -143,22 +147,9 @@ pub fn decide(seen: Seen, row: Object, step: Step) -> Decided
         return refuse(row, 3);
     }
     let warp = seen.warp;
-    let barrier = seen.barrier;
-    match op {
-        Op::Exit => in_block(exits::exit(seen.warps, warp, barrier, w, seen.at), row),
-        Op::Barrier(k, s) => in_block(
-            arrivals::arrival(
-                seen.warps,
-                seen.live,
-                warp,
-                barrier,
-                w,
-                k,
-                asked::call_of(s),
-            ),
-            row,
-        ),
-        Op::Object(a, o) => on_object(barriers::warp_refusal(seen.warps, warp, w), row, a, o),
-        Op::PendingCount(t) => pending(barriers::warp_refusal(seen.warps, warp, w), row, t),
+    let n = barriers::warp_refusal(seen.warps, warp, w);
+    if n != 0 {
+        return refuse(row, n);
     }
+    of_kind(seen, row, w, op)
 }

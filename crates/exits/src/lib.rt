@@ -3,9 +3,8 @@ use barriers::Moved;
 use block::BARRIER_COUNT;
 use block::Barrier;
 use block::Status;
-use block::Warp;
 ghost use mathlib.Core.Path.{_≡_};
-ghost use Rattle.barriers.specs.Changes.{firstOpening, exitMoved};
+ghost use Rattle.barriers.specs.Changes.{firstOpening, exiting};
 
 // The barrier that completes when warp w exits, where those of alive have not exited before, and 16 if none does.
 pub fn opened(barriers: [Barrier; BARRIER_COUNT as usize], alive: u32, w: u8) -> u8
@@ -24,14 +23,10 @@ pub fn opened(barriers: [Barrier; BARRIER_COUNT as usize], alive: u32, w: u8) ->
     k
 }
 
-// Exit: what the exit of warp w changes in a block of so many warps, where this is the row of the warp, k the barrier that completes, 16 for none, and this the row of that barrier.
-pub fn exit(warps: u8, warp: Warp, barrier: Barrier, w: u8, k: u8) -> Moved
-    ensures { λ m. ⌜ m ≡ exitMoved warps warp barrier w k ⌝ }
+// Exit: what the exit of warp w changes in the block, where k is the barrier that completes, 16 for none, and this the row of that barrier.
+pub fn exit(barrier: Barrier, w: u8, k: u8) -> Moved
+    ensures { λ m. ⌜ m ≡ exiting barrier w k ⌝ }
 {
-    let n = barriers::warp_refusal(warps, warp, w);
-    if n != 0 {
-        return barriers::refuse(n);
-    }
     if k < BARRIER_COUNT {
         return barriers::complete(w as usize, Status::Exited, k as usize, barrier);
     }

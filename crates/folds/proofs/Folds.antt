@@ -11,6 +11,7 @@ use native.Mathlib.Omega.{arith}
 use lib.Dec.{ltb}
 use lib.ListN.{length, getD, set}
 use borrow.Author.Tests.{lt-ltb, le-ltb, ltb-true}
+use Rattle.folds.specs.Lowest.{numbered}
 use Rattle.folds.specs.Folds.{all, first, every, everyFrom, Line, lowest, firsts}
 
 pub and-left : (a b : Bool) → a && b ≡ true → a ≡ true
@@ -126,11 +127,6 @@ every-fails ts i e = go (every ts) refl
     go false q = refl
 
 -- ---- the lowest line that holds
-
--- the numbers of a table are not 0
-abbrev pub numbered : List Line → Bool
-numbered [] = true
-numbered (r ∷ rs) = ltb 0 (r .1) && numbered rs
 
 passed : (t : Bool) (n r : ℕ) → ltb 0 n ≡ true → cond t n r ≡ 0 → (t ≡ false) × (r ≡ 0)
 passed true n r h e = absurd (omega (arith, ltb-true 0 n h))

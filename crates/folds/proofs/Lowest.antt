@@ -1,17 +1,17 @@
--- The lowest line of a table whose numbers go up.
+-- The lowest line of a table, of a table whose numbers go up, and of two tables joined.
 -- Assumes nothing.
 use mathlib.Core.Path.{_≡_, refl, sym, _∙_}
-use mathlib.Core.Bool.{Bool, true, false, and-false}
+use mathlib.Core.Bool.{Bool, true, false, cond, and-false}
 use mathlib.Core.Logic.{⊎-elim}
-use mathlib.Core.List.{List, [], _∷_}
+use mathlib.Core.List.{List, [], _∷_, _++_}
 use Prim.Native.Nat.{ℕ, _<_, _≤_, zero-le}
 use native.Mathlib.Nat.{eq-or-lt-of-le, le-of-lt, le-antisymm, le-of-suc-le-suc, lt-of-not-le}
 use native.Mathlib.Omega.{arith}
 use lib.Dec.{ltb, eqb}
-use borrow.Author.Tests.{ltb-true, eq-eqb, ne-eqb}
+use borrow.Author.Tests.{ltb-true, eq-eqb, ne-eqb, eqb-true}
 use Rattle.folds.specs.Folds.{Line, lowest}
 use Rattle.folds.proofs.Folds.{and-left, and-right}
-use Rattle.folds.specs.Lowest.{ascending, holds, Lowest, None, LowestGiven, NoneGiven}
+use Rattle.folds.specs.Lowest.{ascending, holds, numbered, Lowest, None, LowestGiven, NoneGiven, LowestJoined}
 
 never : {A : Type 0} {b : Bool} → b ≡ true → b ≡ false → A
 never p q = let z : _≡_ {A = ℕ} 0 1 = cc in absurd (omega arith)
@@ -84,3 +84,51 @@ none-holds ls h = (
   none-given 0 ls h,
   λ f. ⊎-elim (λ z. sym z) (λ q. never (given 0 ls h q .here) (f (lowest ls))) (eq-or-lt-of-le (zero-le {n = lowest ls})),
 )
+
+-- ---- line by line
+
+module _ (t : Bool) (n : ℕ) (rs : List Line) where
+  -- a first line that holds
+  pub line-holds : t ≡ true → n ≡ lowest ((t, n) ∷ rs)
+  unfolding lowest
+  line-holds e = rw e
+
+  -- and one that does not
+  pub line-passed : t ≡ false → {m : ℕ} → m ≡ lowest rs → m ≡ lowest ((t, n) ∷ rs)
+  unfolding lowest
+  line-passed e h = rw e h
+
+pub no-line : 0 ≡ lowest []
+unfolding lowest
+no-line = refl
+
+-- ---- two tables joined
+
+pub lowest-joined : LowestJoined
+unfolding lowest
+lowest-joined [] ys h = refl
+lowest-joined (r ∷ rs) ys h = go (r .0) (lowest-joined rs ys (and-right (ltb 0 (r .1)) (numbered rs) h))
+  where
+    go : (t : Bool) → lowest (rs ++ ys) ≡ cond (eqb (lowest rs) 0) (lowest ys) (lowest rs)
+        → cond t (r .1) (lowest (rs ++ ys)) ≡ cond (eqb (cond t (r .1) (lowest rs)) 0) (lowest ys) (cond t (r .1) (lowest rs))
+    go true e =
+        let p = ltb-true 0 (r .1) (and-left (ltb 0 (r .1)) (numbered rs) h) in
+        rw (ne-eqb (r .1) 0 (λ z. omega arith))
+    go false e = e
+
+module _ (xs ys : List Line) (h : numbered xs ≡ true) where
+  -- a number of the first is given
+  pub joined-first : {n : ℕ} → n ≡ lowest xs → (n ≡ 0 → ⊥) → n ≡ lowest (xs ++ ys)
+  joined-first {n} e f = rw (lowest-joined xs ys h, ← e, ne-eqb n 0 f)
+
+  -- where it gives none, that of the second is
+  pub joined-rest : lowest xs ≡ 0 → lowest (xs ++ ys) ≡ lowest ys
+  joined-rest e = rw (lowest-joined xs ys h, e)
+
+  -- none is given: neither gives one
+  pub joined-none : lowest (xs ++ ys) ≡ 0 → (lowest xs ≡ 0) × (lowest ys ≡ 0)
+  joined-none e = go (eqb (lowest xs) 0) refl (sym (lowest-joined xs ys h) ∙ e)
+    where
+      go : (t : Bool) → eqb (lowest xs) 0 ≡ t → cond t (lowest ys) (lowest xs) ≡ 0 → (lowest xs ≡ 0) × (lowest ys ≡ 0)
+      go true q z = (eqb-true (lowest xs) 0 q, z)
+      go false q z = never (eq-eqb (lowest xs) 0 z) q

@@ -1,7 +1,7 @@
 -- Proofs of what `specs/Laws` claims.
 -- Assumes nothing.
 use mathlib.Core.Path.{_≡_, refl, sym, ap, ap₂, _∙_, subst}
-use mathlib.Core.Bool.{Bool, true, false, false≢true}
+use mathlib.Core.Bool.{Bool, true, false, not, false≢true}
 use mathlib.Core.List.{List, [], _∷_}
 use Prim.Native.Nat.{ℕ}
 use lib.ListN.{getD, set}
@@ -16,15 +16,15 @@ use Rattle.barriers.specs.Changes.{changed}
 use Rattle.barriers.proofs.Changes.{unchanged}
 use Rattle.block_laws.specs.Sound.{Shaped}
 use Rattle.tables.specs.declared.Taken.{Taken}
-use Rattle.tables.specs.Tables.{Tables, soundTables, viewOf, slotOf, isAccepted, tallied}
+use Rattle.tables.specs.Tables.{Tables, soundTables, viewOf, slotOf, seenOf, isAccepted, tallied}
 use Rattle.tables.specs.Effect.{State, taken, verdict, after, next, run, verdicts, liveAfter}
 use Rattle.tables.specs.Laws.{Sound}
 use Rattle.tables.proofs.Chains.{taken-unsound}
 use Rattle.tables.proofs.Laws.{refused-leaves-all}
 use Rattle.tables.proofs.Kept.{keeps-sound, live-followed}
 use Rattle.decisions.specs.declared.Decided.{Decided}
-use Rattle.decisions.specs.Decides.{refusing, seenOf, decidedOn, leftOf}
-use Rattle.decisions.proofs.Decides.{decision-seen}
+use Rattle.decisions.specs.Decides.{refusing, decidedOn, leftOf}
+use Rattle.decisions.proofs.Decides.{decided-unsound, decision-seen}
 use Rattle.lent.specs.Entries.{tablesOf}
 use Rattle.lent_run.specs.declared.Checked.{Checked}
 use Rattle.lent_run.specs.Run.{checkedAfter, decidedWith, onward}
@@ -37,8 +37,7 @@ check-fits t = record { sound = refl; live = λ h. rw h }
 
 -- where the tables are said to be unsound, it is refused with 3, whoever is said to be live
 said-unsound : (z : Bool) (live : ℕ) (b : Block) (o : Object) (s : Step) → z ≡ false → decidedOn (seenOf z live b s) o s ≡ refusing o 3
-unfolding decidedOn
-said-unsound z live b o s e = rw e
+said-unsound z live b o s e = sym (decided-unsound (seenOf z live b s) o s (ap not e))
 
 module _ (x : State) (c : Checked) (s : Step) (shaped : Shaped (x .tables .block)) where
   abbrev t : Tables

@@ -2,10 +2,10 @@
 use block::Barrier;
 use block::Block;
 use block::Warp;
-use decisions::Seen;
 use steps::Step;
+use tables::Seen;
 ghost use mathlib.Core.Path.{_≡_};
-ghost use Rattle.decisions.specs.Decides.{barrierFor, seenOf};
+ghost use Rattle.tables.specs.Tables.{barrierFor, seenOf};
 
 // The barrier whose row the step may change, where those of live have not exited; the block stays as it is. It is lent as one that may change, since a field of a lent block is lent on so (`in_place`).
 fn barrier_for(b: &mut Block, live: u32, s: Step) -> u8

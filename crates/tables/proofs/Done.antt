@@ -35,8 +35,7 @@ use Rattle.tables.specs.Tables.{Tables, viewOf, soundObjects, soundTable
 use Rattle.tables.specs.Refusals.{callOf, actOf}
 use Rattle.tables.specs.Effect.{verdict}
 use Rattle.tables.specs.Laws.{Completes, DoneExactly}
-use Rattle.tables.proofs.Parts.{place-below}
-use Rattle.tables.proofs.Chains.{form-selector}
+use Rattle.tables.proofs.Chains.{form-selector, place-below}
 use Rattle.tables.proofs.Laws.{passes, does}
 
 -- true is not false

@@ -35,12 +35,11 @@ use Rattle.block_laws.specs.Sound.{Shaped, Asks}
 use Rattle.block_laws.proofs.Sound as sound
 use Rattle.block_laws.proofs.Changes as changes
 use Rattle.tables.specs.declared.Taken.{Taken}
-use Rattle.tables.specs.Tables.{View, viewOf, slotOf, soundObjects, isAccepted}
+use Rattle.tables.specs.Tables.{View, viewOf, slotOf, isExit, soundObjects, isAccepted}
 use Rattle.tables.specs.Refusals.{callOf, actOf}
-use Rattle.tables.specs.Parts.{answered}
-use Rattle.tables.specs.Effect.{taken, isExit, liveAfter, next}
+use Rattle.tables.specs.Effect.{taken, liveAfter, next}
 use Rattle.tables.specs.Laws.{barrierOf, BarriersLeft, KeepsSound, RunKeepsSound, LiveFollowed}
-use Rattle.tables.proofs.Chains.{Has, taken-has}
+use Rattle.tables.proofs.Chains.{answered, Has, taken-has}
 
 -- ---- the object row
 
@@ -67,7 +66,7 @@ objects-sound l h i o k =
 
 -- the row of an answer to a step on a sound row
 answer-sound : (v : View) (slot : ℕ) (x : Act) (a : Answer) → row.stepRow (v .object) slot x ≡ a → soundRow (v .object) ≡ true
-    → soundRow (answered (v .block) (v .object) a .object) ≡ true
+    → soundRow (answered v a .object) ≡ true
 answer-sound v slot x (answer.Refused n) e h = h
 answer-sound v slot x (answer.Accepted o u d) e h = kept.keeps-sound (v .object) slot x o u d h e
 
@@ -91,7 +90,7 @@ asks (RedAll s m) = sound.calls-ask .red s All m
 asks (Red s t m) = sound.calls-ask .red s (Given t) m
 
 -- an object's answer leaves the block
-answer-block : (v : View) (a : Answer) → answered (v .block) (v .object) a .block ≡ v .block
+answer-block : (v : View) (a : Answer) → answered v a .block ≡ v .block
 answer-block v (answer.Refused n) = refl
 answer-block v (answer.Accepted o u d) = refl
 

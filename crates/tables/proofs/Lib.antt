@@ -1,4 +1,3 @@
-pub mod Parts
 pub mod Chains
 pub mod Laws
 pub mod Kept

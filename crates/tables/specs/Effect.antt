@@ -1,6 +1,6 @@
 -- What an accepted step does, and the step: document 01, "Named barriers" and "Mbarrier objects", over whole tables.
 -- Assumes nothing.
-use mathlib.Core.Bool.{Bool, true, false, cond, _&&_}
+use mathlib.Core.Bool.{false, cond, _&&_}
 use mathlib.Core.List.{List, [], _∷_}
 use Prim.Native.Nat.{ℕ}
 use lib.Dec.{eqb}
@@ -9,16 +9,21 @@ use Rattle.sets.specs.Sets.{less}
 use Rattle.steps.specs.declared.Op.{Op}
 use Rattle.steps.specs.declared.Op.the-variants.{Exit, Barrier, Object, PendingCount}
 use Rattle.steps.specs.declared.Step.{Step}
+use Rattle.object.specs.declared.Object as object
 use Rattle.object.specs.Tokens.{pendingIn}
 use Rattle.object.specs.Row as row
 use Rattle.block.specs.declared.Verdict.{Verdict}
-use Rattle.block.specs.declared.Verdict.the-variants.{Accepted}
+use Rattle.block.specs.declared.Verdict.the-variants.{Refused, Accepted}
+use Rattle.block.specs.declared.Turn.{Turn}
 use Rattle.barriers.specs.Steps as barriers
 use Rattle.tables.specs.declared.Taken.{Taken}
 use Rattle.tables.specs.declared.Tally.{Tally}
-use Rattle.tables.specs.Tables.{Tables, View, viewOf, slotOf, isAccepted, tallied}
+use Rattle.tables.specs.Tables.{Tables, View, viewOf, slotOf, isExit, isAccepted, tallied}
 use Rattle.tables.specs.Refusals.{callOf, actOf, refusal}
-use Rattle.tables.specs.Parts.{leaves, blockTaken}
+
+-- the block's part of a step, which leaves the row
+abbrev pub blockTaken : object.Object → Turn → Taken
+blockTaken o t = record { verdict = t .verdict; block = t .block; object = o }
 
 -- what a step does that no line refuses
 abbrev pub effect : View → ℕ → Op → Taken
@@ -33,7 +38,7 @@ effect v w (PendingCount t) = record { verdict = Accepted (pendingIn t) false 0;
 
 -- a refused step changes nothing
 abbrev pub refused : View → ℕ → Taken
-refused v n = leaves (v .block) (v .object) n
+refused v n = record { verdict = Refused n; block = v .block; object = v .object }
 
 -- a step over what it sees
 unfoldable pub taken : View → Step → Taken
@@ -50,13 +55,6 @@ abbrev pub after : Tables → Step → Tables
 after t s = record { block = taken (viewOf t s) s .block; objects = set (t .objects) (slotOf (s .op)) (taken (viewOf t s) s .object) }
 
 -- ---- who has not exited
-
--- an exit
-abbrev pub isExit : Op → Bool
-isExit Exit = true
-isExit (Barrier k b) = false
-isExit (Object a o) = false
-isExit (PendingCount t) = false
 
 -- the live warps after a step with this verdict: an accepted exit takes its own warp out of them, and no other step changes them
 abbrev pub liveAfter : ℕ → Step → Verdict → ℕ

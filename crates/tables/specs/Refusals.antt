@@ -1,9 +1,10 @@
--- The refusal table, lines 3 to 20, in document 01's order: a test to each line, false where the step's kind has no such field.
+-- The refusal table, in document 01's order: a test to each line, false where the step's kind has no such field.
 -- Assumes nothing.
 use mathlib.Core.Bool.{Bool, true, false, not, _||_}
-use mathlib.Core.List.{List, [], _∷_}
+use mathlib.Core.List.{List, [], _∷_, _++_}
 use Prim.Native.Nat.{ℕ, _%_}
 use lib.Dec.{eqb, ltb}
+use lib.ListN.{drop}
 use Rattle.folds.specs.Folds.{Line, lowest}
 use Rattle.steps.specs.declared.BarrierStep.{BarrierStep}
 use Rattle.steps.specs.declared.BarrierStep.the-variants as barrier
@@ -12,15 +13,18 @@ use Rattle.steps.specs.declared.ObjectStep.the-variants as step
 use Rattle.steps.specs.declared.Op.{Op}
 use Rattle.steps.specs.declared.Op.the-variants.{Exit, Barrier, Object, PendingCount}
 use Rattle.steps.specs.declared.Step.{Step}
+use Rattle.object.specs.declared.Object as object
 use Rattle.object.specs.declared.Act.{Act}
 use Rattle.object.specs.declared.Act.the-variants as act
 use Rattle.object.specs.Tokens.{tooLarge}
 use Rattle.object.specs.Row as row
 use Rattle.block.specs.declared.Threads.the-variants.{All, Given}
 use Rattle.block.specs.declared.Call.{Call}
-use Rattle.barriers.specs.Steps as barriers
+use Rattle.barrier_row.specs.Rows.{badThreads, clashes}
+use Rattle.barriers.specs.Steps.{noSuchWarp, notReady, noSuchBarrier, alreadyArrived}
 use Rattle.calls.specs.Calls as calls
-use Rattle.tables.specs.Tables.{View, slotOf}
+use Rattle.tables.specs.declared.Seen.{Seen}
+use Rattle.tables.specs.Tables.{objectSize, lastAddress, View, seenBy, slotOf}
 
 -- ---- what the steps ask of the block and of an object
 
@@ -61,27 +65,7 @@ ofObject f (Barrier k b) = false
 ofObject f (Object a o) = f a (actOf o)
 ofObject f (PendingCount t) = false
 
--- ---- the lines
-
--- 3: tables not sound
-abbrev pub notSound : View → Step → Bool
-notSound v s = not (v .sound)
-
--- 4: no such warp
-abbrev pub noSuchWarp : View → Step → Bool
-noSuchWarp v s = barriers.noSuchWarp (v .block) (s .warp)
-
--- 5: warp not ready
-abbrev pub notReady : View → Step → Bool
-notReady v s = barriers.notReady (v .block) (s .warp)
-
--- 6: barrier above 15
-abbrev pub noSuchBarrier : View → Step → Bool
-noSuchBarrier v s = ofBarrier (λ k c. barriers.noSuchBarrier k) (s .op)
-
--- 7: threads given, and 0, no multiple of 32, or above 32 times the warps
-abbrev pub badThreads : View → Step → Bool
-badThreads v s = ofBarrier (λ k c. barriers.badThreads (v .block) (c .threads)) (s .op)
+-- ---- the tests that neither the block nor an object has by itself
 
 -- whether the selector of a step is bad: a red has one, and of any other step it is false
 abbrev pub selectorOf : BarrierStep → Bool
@@ -98,83 +82,57 @@ badSelector (Barrier k b) = selectorOf b
 badSelector (Object a o) = false
 badSelector (PendingCount t) = false
 
--- 9: barrier active with another thread count or form
-abbrev pub clashes : View → Step → Bool
-clashes v s = ofBarrier (λ k c. barriers.clashes (v .block) k c) (s .op)
-
--- 10: this warp has already arrived there
-abbrev pub alreadyArrived : View → Step → Bool
-alreadyArrived v s = ofBarrier (λ k c. barriers.alreadyArrived (v .block) k (s .warp)) (s .op)
-
--- an address that is no multiple of 8, or above 504
-abbrev pub offPlace : ℕ → Bool
-offPlace a = not (eqb (a % 8) 0) || ltb 504 a
-
 -- 11: address no multiple of 8, or above 504
-abbrev pub badAddress : View → Step → Bool
-badAddress v s = ofObject (λ a x. offPlace a) (s .op)
-
--- 12: object not live (all but init)
-abbrev pub notLive : View → Step → Bool
-notLive v s = ofObject (λ a x. row.notLive (v .object) x) (s .op)
-
--- 13: object live (init)
-abbrev pub alreadyLive : View → Step → Bool
-alreadyLive v s = ofObject (λ a x. row.alreadyLive (v .object) x) (s .op)
-
--- 14: init count not 1 to 1,048,575; arrival or drop count 0 or above pending; drop count also not below expected
-abbrev pub badCount : View → Step → Bool
-badCount v s = ofObject (λ a x. row.badCount (v .object) x) (s .op)
-
--- 15: transaction count would leave its range
-abbrev pub outOfRange : View → Step → Bool
-outOfRange v s = ofObject (λ a x. row.outOfRange (v .object) x) (s .op)
-
--- 16: arrival or drop while the previous phase is unseen
-abbrev pub unseen : View → Step → Bool
-unseen v s = ofObject (λ a x. row.unseen (v .object) x) (s .op)
-
--- 17: a noComplete step would complete the phase
-abbrev pub endsQuietly : View → Step → Bool
-endsQuietly v s = ofObject (λ a x. row.endsQuietly (v .object) x) (s .op)
-
--- 18: the step would complete phase 4,294,967,295
-abbrev pub endsLast : View → Step → Bool
-endsLast v s = ofObject (λ a x. row.endsLast (v .object) x) (s .op)
+abbrev pub badAddress : ℕ → Bool
+badAddress a = not (eqb (a % objectSize) 0) || ltb lastAddress a
 
 -- 19: token of 2^58 or more; in a test also another object's, or of a phase neither current nor the one before
-abbrev pub badToken : View → Op → Bool
-badToken v Exit = false
-badToken v (Barrier k b) = false
-badToken v (Object a o) = row.badToken (v .object) (slotOf (Object a o)) (actOf o)
-badToken v (PendingCount t) = tooLarge t
+abbrev pub badToken : object.Object → Op → Bool
+badToken o Exit = false
+badToken o (Barrier k b) = false
+badToken o (Object a x) = row.badToken o (slotOf (Object a x)) (actOf x)
+badToken o (PendingCount t) = tooLarge t
 
--- 20: parity above 1
-abbrev pub badParity : View → Step → Bool
-badParity v s = ofObject (λ a x. row.badParity x) (s .op)
+-- ---- the table
 
--- the table
-abbrev pub lines : View → Step → List Line
-lines v s =
-    (notSound v s, 3)
-    ∷ (noSuchWarp v s, 4)
-    ∷ (notReady v s, 5)
-    ∷ (noSuchBarrier v s, 6)
-    ∷ (badThreads v s, 7)
+-- document 01's lines, on what a step sees and the row of the object that it names
+abbrev pub first : Seen → object.Object → Step → List Line
+first v o s =
+    (not (v .sound), 3)
+    ∷ (noSuchWarp (v .warps) (s .warp), 4)
+    ∷ (notReady (v .warp), 5)
+    ∷ (ofBarrier (λ k c. noSuchBarrier k) (s .op), 6)
+    ∷ (ofBarrier (λ k c. badThreads (v .warps) (c .threads)) (s .op), 7)
     ∷ (badSelector (s .op), 8)
-    ∷ (clashes v s, 9)
-    ∷ (alreadyArrived v s, 10)
-    ∷ (badAddress v s, 11)
-    ∷ (notLive v s, 12)
-    ∷ (alreadyLive v s, 13)
-    ∷ (badCount v s, 14)
-    ∷ (outOfRange v s, 15)
-    ∷ (unseen v s, 16)
-    ∷ (endsQuietly v s, 17)
-    ∷ (endsLast v s, 18)
-    ∷ (badToken v (s .op), 19)
-    ∷ (badParity v s, 20)
+    ∷ (ofBarrier (λ k c. clashes (v .barrier) c) (s .op), 9)
+    ∷ (ofBarrier (λ k c. alreadyArrived (v .barrier) (s .warp)) (s .op), 10)
+    ∷ (ofObject (λ a x. badAddress a) (s .op), 11)
+    ∷ (ofObject (λ a x. row.notLive o x) (s .op), 12)
+    ∷ (ofObject (λ a x. row.alreadyLive o x) (s .op), 13)
+    ∷ (ofObject (λ a x. row.badCount o x) (s .op), 14)
+    ∷ (ofObject (λ a x. row.outOfRange o x) (s .op), 15)
+    ∷ (ofObject (λ a x. row.unseen o x) (s .op), 16)
+    ∷ (ofObject (λ a x. row.endsQuietly o x) (s .op), 17)
+    ∷ (ofObject (λ a x. row.endsLast o x) (s .op), 18)
+    ∷ (badToken o (s .op), 19)
+    ∷ (ofObject (λ a x. row.badParity x) (s .op), 20)
     ∷ []
+
+-- the lines above 20
+abbrev pub later : Seen → object.Object → Step → List Line
+later v o s = []
+
+-- both, in the order of their numbers
+abbrev pub table : Seen → object.Object → Step → List Line
+table v o s = first v o s ++ later v o s
+
+-- the lines of a step's kind, 6 to 20; 3, 4 and 5 are for every kind
+abbrev pub kindLines : Seen → object.Object → Step → List Line
+kindLines v o s = drop 3 (first v o s)
+
+-- the table of a step over whole tables
+abbrev pub lines : View → Step → List Line
+lines v s = table (seenBy v s) (v .object) s
 
 -- where several apply, the lowest is given; 0 where none does
 unfoldable pub refusal : View → Step → ℕ

@@ -16,8 +16,10 @@ use Rattle.object.specs.Soundness.{soundRow}
 use Rattle.block.specs.declared.Block.{Block}
 use Rattle.block.specs.declared.Verdict.{Verdict}
 use Rattle.block.specs.declared.Verdict.the-variants.{Refused, Accepted}
-use Rattle.block.specs.Tables.{soundBlock, freshBlock}
+use Rattle.block.specs.Tables.{barrierCount, warpAt, barrierAt, liveOf, soundBlock, freshBlock}
 use Rattle.barrier_row.specs.Rows.{largest}
+use Rattle.barriers.specs.Changes.{firstOpening}
+use Rattle.tables.specs.declared.Seen.{Seen}
 use Rattle.tables.specs.declared.Tally.{Tally}
 
 -- the number of warps, the warp rows and the barrier rows; and the list of object rows
@@ -39,12 +41,43 @@ freshTables n = record { block = freshBlock n; objects = replicate slots dead }
 
 -- ---- what a step sees of the tables
 
+-- an object has 8 bytes, and the last is at 504
+abbrev pub objectSize : ℕ
+objectSize = 8
+
+abbrev pub lastAddress : ℕ
+lastAddress = 504
+
 -- the slot of the object that a step names: its address divided by 8; a step that names no object has none
 abbrev pub slotOf : Op → ℕ
 slotOf op.Exit = slots
 slotOf (op.Barrier k b) = slots
-slotOf (op.Object a o) = a / 8
+slotOf (op.Object a o) = a / objectSize
 slotOf (op.PendingCount t) = slots
+
+-- an exit
+abbrev pub isExit : Op → Bool
+isExit op.Exit = true
+isExit (op.Barrier k b) = false
+isExit (op.Object a o) = false
+isExit (op.PendingCount t) = false
+
+-- the barrier that a step names; 16, which there is not, where it names none
+abbrev pub namedBarrier : Op → ℕ
+namedBarrier op.Exit = barrierCount
+namedBarrier (op.Barrier k b) = k
+namedBarrier (op.Object a o) = barrierCount
+namedBarrier (op.PendingCount t) = barrierCount
+
+-- the barrier whose row a step of warp w may change, where those of live have not exited: the one that an exit completes, 16 if it completes none; of any other step the one that it names
+abbrev pub barrierFor : ℕ → Block → ℕ → Op → ℕ
+barrierFor live b w o = cond (isExit o) (firstOpening (b .barriers) live w) (namedBarrier o)
+
+-- what a step sees of a block of tables that are sound or not, of whose warps those of live have not exited
+abbrev pub seenOf : Bool → ℕ → Block → Step → Seen
+seenOf sound live b s =
+    let k = barrierFor live b (s .warp) (s .op) in
+    record { sound = sound; warps = b .warps; live = live; warp = warpAt b (s .warp); at = k; barrier = barrierAt b k }
 
 -- whether the tables are sound, the block, and the row of the object that the step names
 pub record View : Type 0 where
@@ -54,6 +87,10 @@ pub record View : Type 0 where
 
 abbrev pub viewOf : Tables → Step → View
 viewOf t s = record { sound = soundTables t; block = t .block; object = getD (t .objects) (slotOf (s .op)) dead }
+
+-- what a step sees of its view's block
+abbrev pub seenBy : View → Step → Seen
+seenBy v s = seenOf (v .sound) (liveOf (v .block)) (v .block) s
 
 -- ---- what a verdict says
 

@@ -1,10 +1,27 @@
-// What a step over the tables leaves, the object that it names, and the tally.
+// What a step sees of the tables and what it leaves, the object that it names, and the tally.
 ghost use mathlib.Core.Path.{_≡_};
 ghost use Rattle.tables.specs.Tables.{slotOf, counted, tallied};
+use block::Barrier;
 use block::Block;
 use block::Verdict;
+use block::Warp;
 use object::Object;
 use steps::Op;
+
+// An object has 8 bytes, and the last is at 504.
+pub const OBJECT_SIZE: u16 = 8;
+
+pub const LAST_ADDRESS: u16 = 504;
+
+// What a step sees of the tables: whether they are sound; how many warps the block has, and which of them have not exited; the row of its warp; the barrier whose row it may change, 16 for none, and that row.
+pub struct Seen {
+    pub sound: bool,
+    pub warps: u8,
+    pub live: u32,
+    pub warp: Warp,
+    pub at: u8,
+    pub barrier: Barrier,
+}
 
 // What a step leaves: its verdict, the block, and the row of the object that it names.
 pub struct Taken {
@@ -26,7 +43,7 @@ pub fn slot_of(op: Op) -> usize
     match op {
         Op::Exit => 64,
         Op::Barrier(_, _) => 64,
-        Op::Object(a, _) => (a / 8) as usize,
+        Op::Object(a, _) => (a / OBJECT_SIZE) as usize,
         Op::PendingCount(_) => 64,
     }
 }

@@ -1,11 +1,11 @@
--- `decisions::on_object` meets its contract: the warp's line, the address, and the object's own answer.
+-- `decisions::on_object` meets its contract: the address, and the object's own answer.
 -- Assumes nothing.
 use mathlib.Core.Path.{ap, _∙_}
 use native.Mathlib.Omega.{arith}
 use Rattle.object.specs.Row.{stepRow}
-use Rattle.tables.proofs.Parts.{place-below}
+use Rattle.tables.proofs.Chains.{place-below}
 use Rattle.decisions.specs.Decides.{answering}
-use Rattle.decisions.proofs.Decides.{object-no-warp, object-off-place, object-on-place}
+use Rattle.decisions.proofs.Decides.{object-off-place, object-on-place}
 use borrow.Author.Needs.{needs}
 use Rattle.decisions.proofs.on_object.Statement.{statement}
 use Rattle.decisions.proofs.on_object.Tie as tie
@@ -14,16 +14,10 @@ refuse-requires : tie.Need-refuse-requires
 refuse-requires c κs = search needs
 
 returns : tie.Need-returns
-returns c = c .refuse .ensures ∙ object-no-warp _ _ _ _ (c .before .if1 .taken)
-
-refuse-requires-2 : tie.Need-refuse-requires-2
-refuse-requires-2 c κs = search needs
-
-returns-2 : tie.Need-returns-2
-returns-2 c = c .refuse2 .ensures ∙ object-off-place _ _ _ _ (c .before .before .if1 .left) (c .before .if2 .taken)
+returns c = c .refuse .ensures ∙ object-off-place _ _ _ (c .before .if1 .taken)
 
 cast-step : tie.Need-cast-step
-cast-step c = omega (arith, place-below (c .before .before .args .a) (c .if2 .left))
+cast-step c = omega (arith, place-below (c .before .args .a) (c .if1 .left))
 
 act-of-requires : tie.Need-act-of-requires
 act-of-requires c κs = search needs
@@ -34,13 +28,13 @@ step-requires c κs = search needs
 answer-requires : tie.Need-answer-requires
 answer-requires c κs = search needs
 
-returns-3 : tie.Need-returns-3
-returns-3 c =
+returns-2 : tie.Need-returns-2
+returns-2 c =
     let p = c .before .before .before in
-    let a = p .before .before .args in
+    let a = p .before .args in
     c .answer .ensures
     ∙ ap (answering (a .row)) (c .before .step .ensures ∙ ap (stepRow (a .row) _) (c .before .before .act-of .ensures))
-    ∙ object-on-place _ _ _ _ (p .before .if1 .left) (p .if2 .left)
+    ∙ object-on-place _ _ _ (p .if1 .left)
 
 pub on-object-spec : {M : Type 1} → statement M
 on-object-spec =
@@ -48,10 +42,8 @@ on-object-spec =
     (tie.spec
     refuse-requires
     returns
-    refuse-requires-2
-    returns-2
     cast-step
     act-of-requires
     step-requires
     answer-requires
-    returns-3)
+    returns-2)

@@ -1,20 +1,14 @@
--- `decisions::pending` meets its contract: the warp's line, and the token.
+-- `decisions::pending` meets its contract: the token's count, or its line.
 -- Assumes nothing.
 use mathlib.Core.Path.{sym, ap, _∙_}
 use mathlib.Core.Bool.{false}
 use Rattle.block.specs.declared.Verdict.the-variants.{Accepted}
 use Rattle.barriers.specs.declared.Change.{Change}
 use Rattle.decisions.specs.declared.Decided.{Decided}
-use Rattle.decisions.proofs.Decides.{pending-no-warp, pending-counts}
+use Rattle.decisions.proofs.Decides.{pending-counts}
 use borrow.Author.Needs.{needs}
 use Rattle.decisions.proofs.pending.Statement.{statement}
 use Rattle.decisions.proofs.pending.Tie as tie
-
-refuse-requires : tie.Need-refuse-requires
-refuse-requires c κs = search needs
-
-returns : tie.Need-returns
-returns c = c .refuse .ensures ∙ pending-no-warp _ _ _ (c .before .if1 .taken)
 
 pending-count-requires : tie.Need-pending-count-requires
 pending-count-requires c κs = search needs
@@ -22,8 +16,8 @@ pending-count-requires c κs = search needs
 enum-known-n : tie.Need-enum-known-n
 enum-known-n c = search needs
 
-refuse-requires-2 : tie.Need-refuse-requires-2
-refuse-requires-2 c κs = search needs
+refuse-requires : tie.Need-refuse-requires
+refuse-requires c κs = search needs
 
 enum-known-count : tie.Need-enum-known-count
 enum-known-count c = search needs
@@ -31,28 +25,26 @@ enum-known-count c = search needs
 no-change-requires : tie.Need-no-change-requires
 no-change-requires c κs = search needs
 
+returns : tie.Need-returns
+returns c =
+    let k = c .before .before .before .before in
+    c .refuse .ensures ∙ pending-counts _ _ _ (sym (c .before .before .n .given .1) ∙ k .pending-count .ensures)
+
 returns-2 : tie.Need-returns-2
 returns-2 c =
     let k = c .before .before .before .before in
-    c .refuse2 .ensures ∙ pending-counts _ _ _ (k .before .if1 .left) _ (sym (c .before .before .n .given .1) ∙ k .pending-count .ensures)
-
-returns-3 : tie.Need-returns-3
-returns-3 c =
-    let k = c .before .before .before .before in
-    let a = k .before .before .args in
+    let a = k .before .args in
     ap {B = Decided} (λ (x : Change). record { verdict = Accepted (c .before .before .count .given .0 .0) false 0; change = x; object = a .row }) (c .no-change .ensures)
-    ∙ pending-counts _ _ _ (k .before .if1 .left) _ (sym (c .before .before .count .given .1) ∙ k .pending-count .ensures)
+    ∙ pending-counts _ _ _ (sym (c .before .before .count .given .1) ∙ k .pending-count .ensures)
 
 pub pending-spec : {M : Type 1} → statement M
 pending-spec =
     tie.close
     (tie.spec
-    refuse-requires
-    returns
     pending-count-requires
     enum-known-n
-    refuse-requires-2
+    refuse-requires
     enum-known-count
     no-change-requires
-    returns-2
-    returns-3)
+    returns
+    returns-2)

@@ -6,8 +6,8 @@ use borrow.Author.Tests.{not-true, not-false}
 use Rattle.steps.specs.declared.Step.{Step}
 use Rattle.sets.specs.Sets.{less}
 use Rattle.block.specs.declared.Verdict.{Verdict}
-use Rattle.tables.specs.Tables.{isAccepted}
-use Rattle.tables.specs.Effect.{isExit, liveAfter}
+use Rattle.tables.specs.Tables.{isExit, isAccepted}
+use Rattle.tables.specs.Effect.{liveAfter}
 use Rattle.lent_run.specs.declared.Checked.{Checked}
 use Rattle.lent_run.specs.declared.Gone.{Gone}
 use Rattle.lent_run.specs.Run.{checkedAfter}

@@ -61,13 +61,13 @@ use Rattle.barriers.specs.Changes.{changed}
 use Rattle.barriers.proofs.Change as N
 use Rattle.barriers.proofs.Change.Laws as N′
 use Rattle.tables.specs.declared.Tally.{Tally}
-use Rattle.tables.specs.Tables.{slotOf, tallied}
+use Rattle.tables.specs.Tables.{slotOf, seenOf, tallied}
 use Rattle.tables.proofs.Tally as T
-use Rattle.decisions.specs.declared.Seen.{Seen}
+use Rattle.tables.specs.declared.Seen.{Seen}
 use Rattle.decisions.specs.declared.Decided.{Decided}
-use Rattle.decisions.specs.Decides.{seenOf, decidedOn}
-use Rattle.decisions.proofs.Seen as X
-use Rattle.decisions.proofs.Seen.Laws as X′
+use Rattle.decisions.specs.Decides.{decidedOn}
+use Rattle.tables.proofs.Seen as X
+use Rattle.tables.proofs.Seen.Laws as X′
 use Rattle.decisions.proofs.Decided as U
 use Rattle.decisions.proofs.Decided.Laws as U′
 use Rattle.walks.proofs.Walk.{says-too, calls-saying, calls-exact, gone1, concluded, over}
@@ -291,7 +291,7 @@ module _ {M : Type 1} (𝓤 : URA M) (H : Heap 𝓤) (A : Atoms 𝓤) (W : Given
 
   module _ (C : Calls 𝓤 H) (Λ : Loops 𝓤 H) (fm : FmC 𝓤 H (W .laws) C) (known : Known 𝓤 H A at-mem run C) where
     -- from the decision on: what no later statement reads is left aside
-    module _ (l₀ l₁ l₂ l₃ l₄ l₅ l₆ l₇ l₈ l₉ l₁₀ l₁₁ l₁₂ l₁₃ l₁₄ l₁₅ l₁₆ l₁₇ : ℕ) (is-i : Is usize i (vint w64 i ∷ [])) where
+    module _ (l₀ l₁ l₂ l₃ l₄ l₅ l₆ l₇ l₈ l₉ l₁₀ l₁₁ l₁₂ l₁₃ l₁₄ l₁₅ l₁₆ l₁₇ : ℕ) (is-i : Is usize i (vint w64 i ∷ [])) (is-row : Is O.the-row e (mach-row e ∷ [])) where
       abbrev En : Env 𝓤 H
       En = (G′.mir, l₀) ∷ (ref-block, l₁) ∷ (ref-rows, l₂) ∷ (ref-tally, l₃) ∷ (K′.mir, l₄) ∷ (S′.mir, l₅) ∷ (tyInt w64, l₆) ∷ (O′.mir, l₇) ∷ (X′.mir, l₈) ∷ (U′.mir, l₉) ∷ (see-row, l₁₀) ∷ (see-rows, l₁₁) ∷ (to-block, l₁₂) ∷ (tyUnit, l₁₃) ∷ (to-row, l₁₄) ∷ (to-rows, l₁₅) ∷ (to-tally, l₁₆) ∷ (to-block, l₁₇) ∷ []
 
@@ -351,8 +351,8 @@ module _ {M : Type 1} (𝓤 : URA M) (H : Heap 𝓤) (A : Atoms 𝓤) (W : Given
           is-object = LL.owed U.the-type U′.the-laws u _ is-u .1 .1 .0
 
       -- what is decided on what the step sees
-      decides : Is O.the-row e (mach-row e ∷ []) → Is X.the-row v (mach-seen v ∷ []) → Sq W (On (‵ (froom (U′.mir) l₉ 0))) (runs C Λ En steps.t-7 (atRet En Post))
-      decides is-row is-seen =
+      decides : Is X.the-row v (mach-seen v ∷ []) → Sq W (On (‵ (froom (U′.mir) l₉ 0))) (runs C Λ En steps.t-7 (atRet En Post))
+      decides is-seen =
           calls-saying ! fm (decide.signature .params) U.the-row (decide.ended .kept) (decide.clauses 𝓤 H A at-mem run) (known .decide)
           (LL.makes X.the-type X′.the-plain 𝓤 H A, (LL.makes O.the-type O′.the-plain 𝓤 H A, (LL.makes S.the-type S′.the-plain 𝓤 H A, tt))) (LL.val U.the-type U′.the-laws) (LL.tells U.the-type U′.the-laws)
           (v, (e, (s, tt))) (mach-seen v ∷ [], (mach-row e ∷ [], (vs ∷ [], tt))) (is-seen, (is-row, (is-s, tt))) tt (id⊢ 𝓤 _) (λ u. u ≡ decidedOn v e s) (λ a _. id⊢ 𝓤 _)

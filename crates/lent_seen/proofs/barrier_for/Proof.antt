@@ -54,8 +54,7 @@ use Rattle.block.proofs.Barrier.Laws as R′
 use Rattle.block.proofs.Block as B
 use Rattle.block.proofs.Block.Laws as B′
 use Rattle.barriers.specs.Changes.{firstOpening}
-use Rattle.tables.specs.Effect.{isExit}
-use Rattle.decisions.specs.Decides.{namedBarrier, barrierFor}
+use Rattle.tables.specs.Tables.{isExit, namedBarrier, barrierFor}
 use Rattle.walks.proofs.Walk.{is-false, calls-exact, forks, gone1, concluded, over}
 use Rattle.walks.proofs.Lend.{part-shut}
 use Rattle.in_place.proofs.Field.{Barriers, barriers-kept, barriers-out, barriers-in}

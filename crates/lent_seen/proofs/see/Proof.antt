@@ -58,10 +58,10 @@ use Rattle.block.proofs.Barrier.Laws as R′
 use Rattle.block.proofs.Block as B
 use Rattle.block.proofs.Block.Laws as B′
 use Rattle.block_laws.specs.Sound.{Shaped}
-use Rattle.decisions.specs.declared.Seen.{Seen}
-use Rattle.decisions.specs.Decides.{barrierFor, seenOf}
-use Rattle.decisions.proofs.Seen as X
-use Rattle.decisions.proofs.Seen.Laws as X′
+use Rattle.tables.specs.declared.Seen.{Seen}
+use Rattle.tables.specs.Tables.{barrierFor, seenOf}
+use Rattle.tables.proofs.Seen as X
+use Rattle.tables.proofs.Seen.Laws as X′
 use Rattle.walks.proofs.Walk.{calls-exact, gone1, concluded, over}
 use Rattle.walks.proofs.Lend.{Back, part-shut, rows-shared, rows-shared-back, record-lent, record-lent-back, calls-lending}
 use Rattle.in_place.proofs.Field.{Barriers, Rows, barriers-kept, barriers-out, barriers-in, rows-kept, rows-out, rows-in}

@@ -1,6 +1,6 @@
 use borrow.Author.Needs.{needs}
-use Rattle.barrier_row.proofs.bad_count.Statement.{statement}
-use Rattle.barrier_row.proofs.bad_count.Tie as tie
+use Rattle.barrier_row.proofs.bad_threads.Statement.{statement}
+use Rattle.barrier_row.proofs.bad_threads.Tie as tie
 
 enum-told : tie.Need-enum-told
 enum-told c = search needs
@@ -20,6 +20,6 @@ returns c = search needs
 returns-2 : tie.Need-returns-2
 returns-2 c = rw (c .before .t .given .1)
 
-pub bad-count-spec : {M : Type 1} → statement M
-bad-count-spec =
+pub bad-threads-spec : {M : Type 1} → statement M
+bad-threads-spec =
     tie.close (tie.spec enum-told enum-known-t cast-n mul-result returns returns-2)

@@ -1,6 +1,6 @@
 use borrow.Author.Needs.{needs}
-use Rattle.barrier_row.proofs.differs.Statement.{statement}
-use Rattle.barrier_row.proofs.differs.Tie as tie
+use Rattle.barrier_row.proofs.clashes.Statement.{statement}
+use Rattle.barrier_row.proofs.clashes.Tie as tie
 
 form-number-requires : tie.Need-form-number-requires
 form-number-requires c κs = search needs
@@ -14,8 +14,8 @@ form-number-requires-2 c κs = search needs
 returns : tie.Need-returns
 returns c = cc
 
-pub differs-spec : {M : Type 1} → statement M
-differs-spec =
+pub clashes-spec : {M : Type 1} → statement M
+clashes-spec =
     tie.close
     (tie.spec
     form-number-requires
