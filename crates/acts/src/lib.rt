@@ -7,14 +7,15 @@ use object::SLOT_UNIT;
 use object::TOKEN_END;
 ghost use mathlib.Core.Path.{_≡_};
 ghost use mathlib.Core.Bool.{false};
-ghost use Rattle.object.specs.Row.{told, bit, stepRow};
+ghost use Rattle.folds.specs.Folds.{digit};
+ghost use Rattle.object.specs.Row.{told, stepRow};
 
 // How many objects there are.
 const SLOTS: u64 = 64;
 
 // What a test answers: a yes is 1 and sets the seen mark.
 fn tell(o: Object, yes: bool) -> Answer
-    ensures { λ r. ⌜ r ≡ Answer.Accepted (told o yes) (bit yes) false ⌝ }
+    ensures { λ r. ⌜ r ≡ Answer.Accepted (told o yes) (digit yes) false ⌝ }
 {
     if yes {
         let mut row = o;

@@ -10,8 +10,8 @@ ghost use Prim.Native.Nat.{_+_};
 ghost use Rattle.sets.specs.Sets.{put};
 ghost use Rattle.barrier_row.specs.Rows.{countOf, badThreads, clashes as clashesOf, upToLargest, arrivedRow, completes as completesOf, resultOf};
 
-// The largest number of a row, at which a sum stays.
-const LARGEST: u32 = 4294967295;
+// The largest number of a row or a tally, at which a sum stays.
+pub const LARGEST: u32 = 4294967295;
 
 // A row's thread count, 0 for all.
 pub fn count_of(t: Threads) -> u16

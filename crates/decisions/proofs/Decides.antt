@@ -2,7 +2,7 @@
 -- Assumes nothing.
 use mathlib.Core.Path.{_≡_, refl, sym, ap, _∙_}
 use mathlib.Core.Bool.{Bool, true, false, not, cond}
-use mathlib.Core.List.{List, [], _∷_}
+use mathlib.Core.List.{List, _∷_}
 use Prim.Native.Nat.{ℕ, zero, suc, _/_}
 use native.Mathlib.Omega.{arith}
 use lib.Dec.{eqb}
@@ -15,7 +15,6 @@ use Rattle.steps.specs.declared.Step.{Step}
 use Rattle.steps.specs.declared.Op.{Op}
 use Rattle.steps.specs.declared.Op.the-variants as op
 use Rattle.object.specs.declared.Object.{Object}
-use Rattle.object.specs.declared.Answer.{Answer}
 use Rattle.object.specs.declared.Answer.the-variants as answer
 use Rattle.object.specs.declared.Count.{Count}
 use Rattle.object.specs.declared.Count.the-variants.{NoToken, Pending}
@@ -33,7 +32,6 @@ use Rattle.barriers.specs.Changes as changes
 use Rattle.barriers.proofs.Changes.{unchanged, arrival-seen, exit-seen}
 use Rattle.block_laws.specs.Sound.{Shaped}
 use Rattle.tables.specs.declared.Seen.{Seen}
-use Rattle.tables.specs.declared.Taken.{Taken}
 use Rattle.tables.specs.Tables.{View, seenOf}
 use Rattle.tables.specs.Refusals.{callOf, actOf, badAddress, table, kindLines, refusal}
 use Rattle.tables.specs.Effect.{blockTaken, effect, refused, taken}

@@ -1,9 +1,14 @@
--- Tests over the numbers below a bound and over lists, and the lowest line of a numbered table that holds.
+-- A test's digit, tests over the numbers below a bound and over lists, and the lowest line of a numbered table that holds.
 -- Assumes nothing.
-use mathlib.Core.Bool.{Bool, true, cond, _&&_}
+use mathlib.Core.Bool.{Bool, true, false, cond, _&&_}
 use mathlib.Core.List.{List, [], _∷_}
 use Prim.Native.Nat.{ℕ, zero, suc}
 use lib.Dec.{ltb}
+
+-- 1 for a test that holds, 0 for one that does not
+abbrev pub digit : Bool → ℕ
+digit true = 1
+digit false = 0
 
 -- the test holds of every number below n
 unfoldable pub all : ℕ → (ℕ → Bool) → Bool

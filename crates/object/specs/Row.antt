@@ -6,7 +6,7 @@ use mathlib.Core.List.{List, [], _∷_}
 use lib.Dec.{ltb, leb, eqb}
 use lib.IntN.{ℤ, pos, negsuc, negℤ, _+ℤ_, _-ℤ_}
 use lib.Signed.{ltZ}
-use Rattle.folds.specs.Folds.{Line, lowest}
+use Rattle.folds.specs.Folds.{digit, Line, lowest}
 use Rattle.object.specs.declared.Object.{Object}
 use Rattle.object.specs.declared.Act.{Act}
 use Rattle.object.specs.declared.Act.the-variants.{Init, Inval, Arrive, Expect, Complete, Token, Parity}
@@ -112,10 +112,6 @@ rowAfter o a = cond (ends o a) (nextPhase (acted o a)) (acted o a)
 
 -- ---- the value
 
--- 1 for a yes, 0 for a no
-abbrev pub bit : Bool → ℕ
-bit b = cond b 1 0
-
 -- "Arrivals and drops answer a token of the state before them", tests 1 or 0; "a value not fixed here .. is 0"
 abbrev pub valueOf : Object → ℕ → Act → ℕ
 valueOf o slot (Init n) = 0
@@ -123,8 +119,8 @@ valueOf o slot Inval = 0
 valueOf o slot (Arrive n drop x quiet) = token o slot
 valueOf o slot (Expect x) = 0
 valueOf o slot (Complete x) = 0
-valueOf o slot (Token t) = bit (tokenSays o t)
-valueOf o slot (Parity p) = bit (paritySays o p)
+valueOf o slot (Token t) = digit (tokenSays o t)
+valueOf o slot (Parity p) = digit (paritySays o p)
 
 -- ---- the refusal table, lines 12 to 20
 

@@ -6,11 +6,12 @@ use mathlib.Core.List.{List, [], _∷_, _++_, foldr}
 use Prim.Native.Nat.{ℕ, _+_, _/_, _<_}
 use native.Mathlib.Omega.{arith}
 use borrow.Author.Tests.{leb-true}
+use Rattle.folds.specs.Folds.{digit}
 use Rattle.steps.specs.declared.ObjectStep.{ObjectStep}
 use Rattle.steps.specs.declared.Step.{Step}
 use Rattle.object.specs.declared.Object.{Object}
 use Rattle.object.specs.declared.Act.{Act}
-use Rattle.object.specs.Row.{lastPhase, nextPhase, acted, ends, bit, bothZero, lines}
+use Rattle.object.specs.Row.{lastPhase, nextPhase, acted, ends, bothZero, lines}
 use Rattle.block.specs.declared.Block.{Block}
 use Rattle.block.specs.declared.Verdict.the-variants.{Accepted}
 use Rattle.tables.specs.Tables.{Tables, soundTables, counted, tallied}
@@ -189,7 +190,7 @@ module _ (a : ℕ) (good : Address a) where
   -- ---- tests
 
   module _ (t : Tables) (sound : soundTables t ≡ true) (w : ℕ) (h : ready (t .block) w ≡ true) (o : ObjectStep) where
-    test-says : (b : Bool) → Says (objectAt t a) (a / 8) (actOf o) b → verdict t (stepOn w a o) ≡ Accepted (bit b) false 0
+    test-says : (b : Bool) → Says (objectAt t a) (a / 8) (actOf o) b → verdict t (stepOn w a o) ≡ Accepted (digit b) false 0
     test-says b k = says t sound a good w h o (k .clear) ∙ (λ i. Accepted (k .value i) (k .done i) 0)
 
     test-leaves : Says (objectAt t a) (a / 8) (actOf o) false → after t (stepOn w a o) ≡ t

@@ -7,12 +7,13 @@ use native.Mathlib.Omega.{arith}
 use borrow.Author.Tests.{eq-eqb, ne-eqb, le-ltb, lt-ltb, lt-leb}
 use lib.Dec.{eqb}
 use Rattle.folds.proofs.Cases.{_&_}
+use Rattle.folds.specs.Folds.{digit}
 use Rattle.steps.specs.declared.ObjectStep.{ObjectStep}
 use Rattle.object.specs.declared.Object.{Object}
 use Rattle.object.specs.declared.Act.{Act}
 use Rattle.object.specs.declared.Act.the-variants.{Token, Parity}
 use Rattle.object.specs.Tokens.{slots, slotUnit, phaseUnit, tokenEnd, phaseIn, slotIn}
-use Rattle.object.specs.Row.{lastPhase, bit, told, tokenSays, paritySays, farPhase, ends, rowAfter, valueOf, badToken, lines}
+use Rattle.object.specs.Row.{lastPhase, told, tokenSays, paritySays, farPhase, ends, rowAfter, valueOf, badToken, lines}
 use Rattle.tables.specs.Refusals.{actOf}
 use Rattle.orders.specs.Finishes.{TestOf, byToken, byParity}
 use Rattle.orders.proofs.Clear.{Clear}
@@ -37,7 +38,7 @@ module _ (ph slot p : ℕ) (hs : slot < slots) (hp : p < slotUnit) where
 -- the answer b, which no line refuses, and which no phase ends
 pub record Says (o : Object) (slot : ℕ) (y : Act) (b : Bool) : Type 0 where
   pub clear : Clear (lines o slot y)
-  pub value : valueOf o slot y ≡ bit b
+  pub value : valueOf o slot y ≡ digit b
   pub done : ends o y ≡ false
   pub row : rowAfter o y ≡ told o b
 
@@ -45,7 +46,7 @@ module _ (o : Object) (slot : ℕ) (live : o .live ≡ true) where
   by-token : (t : ℕ) (b : Bool) → t < tokenEnd → slotIn t ≡ slot → farPhase o t ≡ false → tokenSays o t ≡ b → Says o slot (Token t) b
   by-token t b small mine near says = record {
     clear = ap not live & refl & refl & refl & refl & refl & refl & good & refl & tt;
-    value = ap bit says;
+    value = ap digit says;
     done = refl;
     row = ap (told o) says;
   }
@@ -56,7 +57,7 @@ module _ (o : Object) (slot : ℕ) (live : o .live ≡ true) where
   by-parity : (p : ℕ) (b : Bool) → p < 2 → paritySays o p ≡ b → Says o slot (Parity p) b
   by-parity p b small says = record {
     clear = ap not live & refl & refl & refl & refl & refl & refl & refl & le-ltb 1 p (omega arith) & tt;
-    value = ap bit says;
+    value = ap digit says;
     done = refl;
     row = ap (told o) says;
   }

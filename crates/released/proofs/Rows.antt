@@ -1,7 +1,7 @@
 -- Laws of a list whose first places are changed one after another, and of the warp rows that are released so.
 -- Assumes nothing.
 use mathlib.Core.Path.{_≡_, refl, sym, ap, ap₂, _∙_}
-use mathlib.Core.Bool.{Bool, cond}
+use mathlib.Core.Bool.{cond}
 use mathlib.Core.List.{List, [], _∷_}
 use Prim.Native.Nat.{ℕ, zero, suc, _+_, _<_, _≤_}
 use native.Mathlib.Omega.{arith}
@@ -10,7 +10,6 @@ use lib.ListN.{length, getD, set}
 use borrow.Author.Tests.{lt-ltb, le-ltb}
 use Rattle.folds.specs.Folds.{firsts}
 use Rattle.folds.proofs.Folds.{firsts-more}
-use Rattle.sets.specs.Sets.{has}
 use Rattle.sets.proofs.Sets.{has-none}
 use Rattle.block.specs.declared.Warp.{Warp}
 use Rattle.barriers.specs.declared.Freed.{Freed}

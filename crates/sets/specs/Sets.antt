@@ -1,14 +1,10 @@
 -- Sets of warps as masks of 32 digits, warp 0 lowest.
 -- Assumes nothing.
-use mathlib.Core.Bool.{Bool, true, false, cond}
+use mathlib.Core.Bool.{Bool, cond}
 use Prim.Native.Nat.{ℕ, zero, suc, _+_, _-_, _*_, _/_, _%_, _^_}
 use lib.Dec.{eqb, ltb}
 use lib.Bits.{bitAnd, bitOr}
-
--- 1 for a test that holds, 0 for one that does not
-abbrev pub digit : Bool → ℕ
-digit true = 1
-digit false = 0
+pub use Rattle.folds.specs.Folds.{digit}
 
 -- the set has warp w: digit w of the mask is 1
 abbrev pub has : ℕ → ℕ → Bool

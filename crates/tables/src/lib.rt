@@ -1,6 +1,7 @@
 // What a step sees of the tables and what it leaves, the object that it names, and the tally.
 ghost use mathlib.Core.Path.{_≡_};
 ghost use Rattle.tables.specs.Tables.{slotOf, counted, tallied};
+use barrier_row::LARGEST;
 use block::Barrier;
 use block::Block;
 use block::Verdict;
@@ -52,7 +53,7 @@ pub fn slot_of(op: Op) -> usize
 fn one_more(n: u32) -> u32
     ensures { λ r. ⌜ r ≡ counted n ⌝ }
 {
-    if n == 4294967295 {
+    if n == LARGEST {
         return n;
     }
     n + 1
