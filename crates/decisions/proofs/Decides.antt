@@ -2,7 +2,7 @@
 -- Assumes nothing.
 use mathlib.Core.Path.{_≡_, refl, sym, ap, _∙_}
 use mathlib.Core.Bool.{Bool, true, false, not, cond}
-use mathlib.Core.List.{List, _∷_}
+use mathlib.Core.List.{List, _∷_, _++_}
 use Prim.Native.Nat.{ℕ, zero, suc, _/_}
 use native.Mathlib.Omega.{arith}
 use lib.Dec.{eqb}
@@ -33,7 +33,7 @@ use Rattle.barriers.proofs.Changes.{unchanged, arrival-seen, exit-seen}
 use Rattle.block_laws.specs.Sound.{Shaped}
 use Rattle.tables.specs.declared.Seen.{Seen}
 use Rattle.tables.specs.Tables.{View, seenOf}
-use Rattle.tables.specs.Refusals.{callOf, actOf, badAddress, table, kindLines, refusal}
+use Rattle.tables.specs.Refusals.{callOf, actOf, badAddress, later, table, kindLines, refusal}
 use Rattle.tables.specs.Effect.{blockTaken, effect, refused, taken}
 use Rattle.tables.proofs.Chains.{barrier-lines}
 use Rattle.decisions.specs.declared.Decided.{Decided}
@@ -116,11 +116,11 @@ module _ (v : Seen) (o : Object) (s : Step) where
 
     pub decided-no-warp : (n ≡ 0 → ⊥) → refusing o n ≡ decidedOn v o s
     unfolding decidedOn
-    decided-no-warp h = given _ o _ n (joined-first firstThree (kindLines v o s) refl warp-line h) h
+    decided-no-warp h = given _ o _ n (joined-first firstThree (kindLines v o s ++ later v o s) refl warp-line h) h
 
     pub decided-kind : n ≡ 0 → kindDecided v o s ≡ decidedOn v o s
     unfolding decidedOn kindDecided
-    decided-kind none = rw (joined-rest firstThree (kindLines v o s) refl (sym warp-line ∙ none))
+    decided-kind none = rw (joined-rest firstThree (kindLines v o s ++ later v o s) refl (sym warp-line ∙ none))
 
 -- ---- what is left of a block
 
