@@ -3,7 +3,7 @@ use block::MOST_WARPS;
 use block::Turn;
 use block::Verdict;
 use object::Object;
-use rows::SLOTS;
+use object_list::SLOTS;
 use tables::Tally;
 ghost use mathlib.Core.Path.{_≡_};
 ghost use Rattle.tables.specs.Tables.{freshTally};
@@ -62,7 +62,7 @@ pub fn fresh(objects: &mut [Object], tally: &mut Tally, warps: u8) -> Turn
     if n != 0 {
         return fresh_turn(n, warps);
     }
-    all_rows::fresh_rows(objects);
+    object_list::fresh_rows(objects);
     *tally = fresh_tally();
     fresh_turn(n, warps)
 }

@@ -4,7 +4,7 @@ use block::Verdict;
 use lent_run::Checked;
 use looking::Laying;
 use object::Object;
-use rows::SLOTS;
+use object_list::SLOTS;
 use tables::Tally;
 ghost use mathlib.Core.Path.{_≡_};
 ghost use Prim.Native.Nat.{_+_, _<_};

@@ -60,7 +60,7 @@ fn found(b: Block, fine: bool) -> Checked
 pub fn check(b: &mut Block, objects: &[Object]) -> Checked
     ensures { λ r. ⌜ (r ≡ checkedOf (tablesOf (now (b .entry)) (now (objects .entry)))) × (now (b .exit) ≡ now (b .entry)) ⌝ }
 {
-    let fine = all_rows::rows_sound(objects);
+    let fine = object_list::rows_sound(objects);
     found(*b, fine)
 }
 
@@ -103,11 +103,11 @@ pub fn go_on(b: &mut Block, objects: &mut [Object], tally: &mut Tally, c: Checke
     ensures { λ r. ⌜ GoneOn (stateOf (now (b .entry)) (now (objects .entry)) (now (tally .entry))) c s r (now (b .exit)) (now (objects .exit)) (now (tally .exit)) ⌝ }
 {
     let at = lent::slot(s);
-    let row = rows::row_at(objects, at);
+    let row = object_list::row_at(objects, at);
     let seen = lent_seen::see(&mut *b, c.sound, c.live, s);
     let d = decisions::decide(seen, row, s);
-    rows::put_row(objects, at, d.object);
-    rows::count(tally, d.verdict);
+    object_list::put_row(objects, at, d.object);
+    tally::count(tally, d.verdict);
     in_place::change(b, d.change);
     answer(c, s, d.verdict)
 }

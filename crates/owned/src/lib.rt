@@ -2,7 +2,7 @@
 use block::Block;
 use block::Verdict;
 use object::Object;
-use rows::SLOTS;
+use object_list::SLOTS;
 use steps::Step;
 use tables::Tally;
 ghost use mathlib.Core.Path.{_≡_};

@@ -55,10 +55,10 @@ use Rattle.tables.specs.Tables.{freshTally}
 use Rattle.tables.proofs.Tally as T
 use Rattle.tables.proofs.Tally.Laws as T′
 use Rattle.walks.proofs.Walk.{is-false, says-too, calls-exact, forks, gone1, concluded, over}
-use Rattle.all_rows.proofs.fresh_rows as fresh-rows
-use Rattle.all_rows.proofs.fresh_rows.Symbol as fresh-rows-def
-use Rattle.all_rows.proofs.fresh_rows.Symbol.{name as #all-rows·fresh-rows}
-use Rattle.all_rows.proofs.fresh_rows.Met as fresh-rows-thm
+use Rattle.object_list.proofs.fresh_rows as fresh-rows
+use Rattle.object_list.proofs.fresh_rows.Symbol as fresh-rows-def
+use Rattle.object_list.proofs.fresh_rows.Symbol.{name as #object-list·fresh-rows}
+use Rattle.object_list.proofs.fresh_rows.Met as fresh-rows-thm
 use Rattle.lent.specs.Entries.{freshRefusal, freshTurn, Freshened}
 use Rattle.lent.proofs.Entries.{all-there}
 use Rattle.walks.proofs.Lend.{Back, rows-lent, rows-lent-back, calls-lending}
@@ -99,7 +99,7 @@ module _ {M : Type 1} (𝓤 : URA M) (H : Heap 𝓤) (A : Atoms 𝓤) (at-mem : 
   pub record Known (C : Calls 𝓤 H) : Type 1 where
     pub fresh-refusal : Triple 𝓤 (C #fresh-tables·fresh-refusal) FreshRefusal
     pub fresh-turn : Triple 𝓤 (C #fresh-tables·fresh-turn) FreshTurn
-    pub fresh-rows : Triple 𝓤 (C #all-rows·fresh-rows) FreshRows
+    pub fresh-rows : Triple 𝓤 (C #object-list·fresh-rows) FreshRows
     pub fresh-tally : Triple 𝓤 (C #fresh-tables·fresh-tally) FreshTally
 
 -- what two calls answer: the refusal number, and the turn that it makes
@@ -221,6 +221,6 @@ fresh-spec 𝓤 H 𝓜 𝓖 𝓡 =
     (fresh-walks 𝓤 H (𝓖 .A) (givenOf 𝓤 H 𝓜 𝓖) (𝓜 .mem) (𝓡 .run) (over 𝓤 H 𝓜 𝓖 𝓡 code.env) (record {
       fresh-refusal = cited 𝓤 H (FreshRefusal 𝓤 H (𝓖 .A) (𝓜 .mem) (𝓡 .run)) 𝓜 𝓡 code.env #fresh-tables·fresh-refusal fresh-refusal-def.routine code.calls-fresh-tables·fresh-refusal (fresh-refusal-thm.met 𝓤 H 𝓜 𝓖 𝓡);
       fresh-turn = cited 𝓤 H (FreshTurn 𝓤 H (𝓖 .A) (𝓜 .mem) (𝓡 .run)) 𝓜 𝓡 code.env #fresh-tables·fresh-turn fresh-turn-def.routine code.calls-fresh-tables·fresh-turn (fresh-turn-thm.met 𝓤 H 𝓜 𝓖 𝓡);
-      fresh-rows = cited 𝓤 H (FreshRows 𝓤 H (𝓖 .A) (𝓜 .mem) (𝓡 .run)) 𝓜 𝓡 code.env #all-rows·fresh-rows fresh-rows-def.routine code.calls-all-rows·fresh-rows (fresh-rows-thm.met 𝓤 H 𝓜 𝓖 𝓡);
+      fresh-rows = cited 𝓤 H (FreshRows 𝓤 H (𝓖 .A) (𝓜 .mem) (𝓡 .run)) 𝓜 𝓡 code.env #object-list·fresh-rows fresh-rows-def.routine code.calls-object-list·fresh-rows (fresh-rows-thm.met 𝓤 H 𝓜 𝓖 𝓡);
       fresh-tally = cited 𝓤 H (FreshTally 𝓤 H (𝓖 .A) (𝓜 .mem) (𝓡 .run)) 𝓜 𝓡 code.env #fresh-tables·fresh-tally fresh-tally-def.routine code.calls-fresh-tables·fresh-tally (fresh-tally-thm.met 𝓤 H 𝓜 𝓖 𝓡);
     }))

@@ -49,10 +49,10 @@ use Rattle.block.proofs.Block.Laws as B′
 use Rattle.tables.specs.Tables.{soundObjects}
 use Rattle.walks.proofs.Walk.{calls-exact, gone1, concluded, over}
 use Rattle.walks.proofs.Lend.{part-shut, rows-shared, rows-shared-back, calls-lending}
-use Rattle.all_rows.proofs.rows_sound as rows-sound
-use Rattle.all_rows.proofs.rows_sound.Symbol as rows-sound-def
-use Rattle.all_rows.proofs.rows_sound.Symbol.{name as #all-rows·rows-sound}
-use Rattle.all_rows.proofs.rows_sound.Met as rows-sound-thm
+use Rattle.object_list.proofs.rows_sound as rows-sound
+use Rattle.object_list.proofs.rows_sound.Symbol as rows-sound-def
+use Rattle.object_list.proofs.rows_sound.Symbol.{name as #object-list·rows-sound}
+use Rattle.object_list.proofs.rows_sound.Met as rows-sound-thm
 use Rattle.lent_run.specs.declared.Checked.{Checked}
 use Rattle.lent_run.specs.Run.{known}
 use Rattle.lent_run.proofs.Checked as K
@@ -78,7 +78,7 @@ module _ {M : Type 1} (𝓤 : URA M) (H : Heap 𝓤) (A : Atoms 𝓤) (at-mem : 
   Found = tripleOf 𝓤 H A found.signature (found.spec 𝓤 H A at-mem run)
 
   pub record Known (C : Calls 𝓤 H) : Type 1 where
-    pub rows-sound : Triple 𝓤 (C #all-rows·rows-sound) RowsSound
+    pub rows-sound : Triple 𝓤 (C #object-list·rows-sound) RowsSound
     pub found : Triple 𝓤 (C #lent-run·found) Found
 
 module _ {M : Type 1} (𝓤 : URA M) (H : Heap 𝓤) (A : Atoms 𝓤) (W : Given 𝓤 H A) (at-mem : Memory → SProp 𝓤) (run : Routine → Fun 𝓤) (κ κ′ : Lft) (q q″ : Share) (b o : ℕ) (γ : GName) (d : Block) (b′ o′ : ℕ) (γ′ : GName) (ys : List Object)
@@ -150,6 +150,6 @@ check-spec 𝓤 H 𝓜 𝓖 𝓡 =
     concluded 𝓤 H 𝓜 𝓖 𝓡 code.env check.ended stayed (goes-ref 𝓤 H (𝓖 .A) (givenOf 𝓤 H 𝓜 𝓖) 2 0 tt (plain (λ _. B.the-row)), (goes-none-slice 𝓤 H (𝓖 .A) (givenOf 𝓤 H 𝓜 𝓖) 2 (1 ∷ []) tt (plain (λ _. O.the-row)) yes, tt))
     (check.clauses 𝓤 H (𝓖 .A) (𝓜 .mem) (𝓡 .run)) #lent-run·check code.function (code.unfolded 𝓤 H 𝓜 𝓡)
     (check-walks 𝓤 H (𝓖 .A) (givenOf 𝓤 H 𝓜 𝓖) (𝓜 .mem) (𝓡 .run) (over 𝓤 H 𝓜 𝓖 𝓡 code.env) (record {
-      rows-sound = cited 𝓤 H (RowsSound 𝓤 H (𝓖 .A) (𝓜 .mem) (𝓡 .run)) 𝓜 𝓡 code.env #all-rows·rows-sound rows-sound-def.routine code.calls-all-rows·rows-sound (rows-sound-thm.met 𝓤 H 𝓜 𝓖 𝓡);
+      rows-sound = cited 𝓤 H (RowsSound 𝓤 H (𝓖 .A) (𝓜 .mem) (𝓡 .run)) 𝓜 𝓡 code.env #object-list·rows-sound rows-sound-def.routine code.calls-object-list·rows-sound (rows-sound-thm.met 𝓤 H 𝓜 𝓖 𝓡);
       found = cited 𝓤 H (Found 𝓤 H (𝓖 .A) (𝓜 .mem) (𝓡 .run)) 𝓜 𝓡 code.env #lent-run·found found-def.routine code.calls-lent-run·found (found-thm.met 𝓤 H 𝓜 𝓖 𝓡);
     }))

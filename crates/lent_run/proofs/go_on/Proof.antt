@@ -77,10 +77,10 @@ use Rattle.lent.proofs.slot as slot
 use Rattle.lent.proofs.slot.Symbol as slot-def
 use Rattle.lent.proofs.slot.Symbol.{name as #lent·slot}
 use Rattle.lent.proofs.slot.Met as slot-thm
-use Rattle.rows.proofs.row_at as row-at
-use Rattle.rows.proofs.row_at.Symbol as row-at-def
-use Rattle.rows.proofs.row_at.Symbol.{name as #rows·row-at}
-use Rattle.rows.proofs.row_at.Met as row-at-thm
+use Rattle.object_list.proofs.row_at as row-at
+use Rattle.object_list.proofs.row_at.Symbol as row-at-def
+use Rattle.object_list.proofs.row_at.Symbol.{name as #object-list·row-at}
+use Rattle.object_list.proofs.row_at.Met as row-at-thm
 use Rattle.lent_seen.proofs.see as see
 use Rattle.lent_seen.proofs.see.Symbol as see-def
 use Rattle.lent_seen.proofs.see.Symbol.{name as #lent-seen·see}
@@ -89,14 +89,14 @@ use Rattle.decisions.proofs.decide as decide
 use Rattle.decisions.proofs.decide.Symbol as decide-def
 use Rattle.decisions.proofs.decide.Symbol.{name as #decisions·decide}
 use Rattle.decisions.proofs.decide.Met as decide-thm
-use Rattle.rows.proofs.put_row as put-row
-use Rattle.rows.proofs.put_row.Symbol as put-row-def
-use Rattle.rows.proofs.put_row.Symbol.{name as #rows·put-row}
-use Rattle.rows.proofs.put_row.Met as put-row-thm
-use Rattle.rows.proofs.count as count
-use Rattle.rows.proofs.count.Symbol as count-def
-use Rattle.rows.proofs.count.Symbol.{name as #rows·count}
-use Rattle.rows.proofs.count.Met as count-thm
+use Rattle.object_list.proofs.put_row as put-row
+use Rattle.object_list.proofs.put_row.Symbol as put-row-def
+use Rattle.object_list.proofs.put_row.Symbol.{name as #object-list·put-row}
+use Rattle.object_list.proofs.put_row.Met as put-row-thm
+use Rattle.tally.proofs.count as count
+use Rattle.tally.proofs.count.Symbol as count-def
+use Rattle.tally.proofs.count.Symbol.{name as #tally·count}
+use Rattle.tally.proofs.count.Met as count-thm
 use Rattle.in_place.proofs.change as change
 use Rattle.in_place.proofs.change.Symbol as change-def
 use Rattle.in_place.proofs.change.Symbol.{name as #in-place·change}
@@ -149,11 +149,11 @@ module _ {M : Type 1} (𝓤 : URA M) (H : Heap 𝓤) (A : Atoms 𝓤) (at-mem : 
 
   pub record Known (C : Calls 𝓤 H) : Type 1 where
     pub slot : Triple 𝓤 (C #lent·slot) Slot
-    pub row-at : Triple 𝓤 (C #rows·row-at) RowAt
+    pub row-at : Triple 𝓤 (C #object-list·row-at) RowAt
     pub see : Triple 𝓤 (C #lent-seen·see) Sees
     pub decide : Triple 𝓤 (C #decisions·decide) Decide
-    pub put-row : Triple 𝓤 (C #rows·put-row) PutRow
-    pub count : Triple 𝓤 (C #rows·count) Count
+    pub put-row : Triple 𝓤 (C #object-list·put-row) PutRow
+    pub count : Triple 𝓤 (C #tally·count) Count
     pub change : Triple 𝓤 (C #in-place·change) Changes
     pub answer : Triple 𝓤 (C #lent-run·answer) Answers
 
@@ -414,11 +414,11 @@ go-on-spec 𝓤 H 𝓜 𝓖 𝓡 =
     (go-on.clauses 𝓤 H (𝓖 .A) (𝓜 .mem) (𝓡 .run)) #lent-run·go-on code.function (code.unfolded 𝓤 H 𝓜 𝓡)
     (go-on-walks 𝓤 H (𝓖 .A) (givenOf 𝓤 H 𝓜 𝓖) (𝓜 .mem) (𝓡 .run) (over 𝓤 H 𝓜 𝓖 𝓡 code.env) (record {
       slot = cited 𝓤 H (Slot 𝓤 H (𝓖 .A) (𝓜 .mem) (𝓡 .run)) 𝓜 𝓡 code.env #lent·slot slot-def.routine code.calls-lent·slot (slot-thm.met 𝓤 H 𝓜 𝓖 𝓡);
-      row-at = cited 𝓤 H (RowAt 𝓤 H (𝓖 .A) (𝓜 .mem) (𝓡 .run)) 𝓜 𝓡 code.env #rows·row-at row-at-def.routine code.calls-rows·row-at (row-at-thm.met 𝓤 H 𝓜 𝓖 𝓡);
+      row-at = cited 𝓤 H (RowAt 𝓤 H (𝓖 .A) (𝓜 .mem) (𝓡 .run)) 𝓜 𝓡 code.env #object-list·row-at row-at-def.routine code.calls-object-list·row-at (row-at-thm.met 𝓤 H 𝓜 𝓖 𝓡);
       see = cited 𝓤 H (Sees 𝓤 H (𝓖 .A) (𝓜 .mem) (𝓡 .run)) 𝓜 𝓡 code.env #lent-seen·see see-def.routine code.calls-lent-seen·see (see-thm.met 𝓤 H 𝓜 𝓖 𝓡);
       decide = cited 𝓤 H (Decide 𝓤 H (𝓖 .A) (𝓜 .mem) (𝓡 .run)) 𝓜 𝓡 code.env #decisions·decide decide-def.routine code.calls-decisions·decide (decide-thm.met 𝓤 H 𝓜 𝓖 𝓡);
-      put-row = cited 𝓤 H (PutRow 𝓤 H (𝓖 .A) (𝓜 .mem) (𝓡 .run)) 𝓜 𝓡 code.env #rows·put-row put-row-def.routine code.calls-rows·put-row (put-row-thm.met 𝓤 H 𝓜 𝓖 𝓡);
-      count = cited 𝓤 H (Count 𝓤 H (𝓖 .A) (𝓜 .mem) (𝓡 .run)) 𝓜 𝓡 code.env #rows·count count-def.routine code.calls-rows·count (count-thm.met 𝓤 H 𝓜 𝓖 𝓡);
+      put-row = cited 𝓤 H (PutRow 𝓤 H (𝓖 .A) (𝓜 .mem) (𝓡 .run)) 𝓜 𝓡 code.env #object-list·put-row put-row-def.routine code.calls-object-list·put-row (put-row-thm.met 𝓤 H 𝓜 𝓖 𝓡);
+      count = cited 𝓤 H (Count 𝓤 H (𝓖 .A) (𝓜 .mem) (𝓡 .run)) 𝓜 𝓡 code.env #tally·count count-def.routine code.calls-tally·count (count-thm.met 𝓤 H 𝓜 𝓖 𝓡);
       change = cited 𝓤 H (Changes 𝓤 H (𝓖 .A) (𝓜 .mem) (𝓡 .run)) 𝓜 𝓡 code.env #in-place·change change-def.routine code.calls-in-place·change (change-thm.met 𝓤 H 𝓜 𝓖 𝓡);
       answer = cited 𝓤 H (Answers 𝓤 H (𝓖 .A) (𝓜 .mem) (𝓡 .run)) 𝓜 𝓡 code.env #lent-run·answer answer-def.routine code.calls-lent-run·answer (answer-thm.met 𝓤 H 𝓜 𝓖 𝓡);
     }))

@@ -1,4 +1,4 @@
--- `rows::row_at` meets its contract: a walk of its MIR, by hand. Past the end it answers the dead row; else the row at its place is copied.
+-- `object_list::row_at` meets its contract: a walk of its MIR, by hand. Past the end it answers the dead row; else the row at its place is copied.
 -- Assumes nothing.
 use mathlib.Core.Path.{_≡_, refl, sym}
 use Prim.Native.Nat.{ℕ, _<_, _*_, _^_}
@@ -47,10 +47,10 @@ use Rattle.object.proofs.dead as dead-row
 use Rattle.object.proofs.dead.Symbol as dead-row-def
 use Rattle.object.proofs.dead.Symbol.{name as #object·dead}
 use Rattle.object.proofs.dead.Met as dead-row-thm
-use Rattle.rows.proofs.row_at.Key.{name as #rows·row-at}
-use Rattle.rows.proofs.row_at as row-at
-use Rattle.rows.proofs.row_at.Statement as stated
-use Rattle.rows.proofs.row_at.Code as code
+use Rattle.object_list.proofs.row_at.Key.{name as #object-list·row-at}
+use Rattle.object_list.proofs.row_at as row-at
+use Rattle.object_list.proofs.row_at.Statement as stated
+use Rattle.object_list.proofs.row_at.Code as code
 
 abbrev stayed : Stays (row-at.ended .signature .params) (row-at.ended .kept)
 stayed = (stay-none-slice (0 ∷ []) tt (plain (λ _. O.the-row)) yes, (stay-none (λ _. usize) yes, tt))
@@ -123,6 +123,6 @@ pub row-at-spec : {M : Type 1} → stated.statement M
 unfolding code.routine tablesOf
 row-at-spec 𝓤 H 𝓜 𝓖 𝓡 =
     concluded 𝓤 H 𝓜 𝓖 𝓡 code.env row-at.ended stayed (goes-none-slice 𝓤 H (𝓖 .A) (givenOf 𝓤 H 𝓜 𝓖) 1 (0 ∷ []) tt (plain (λ _. O.the-row)) yes, (goes-none 𝓤 H (𝓖 .A) (givenOf 𝓤 H 𝓜 𝓖) 1 (λ _. usize) yes (λ κs x f. refl), tt))
-    (row-at.clauses 𝓤 H (𝓖 .A) (𝓜 .mem) (𝓡 .run)) #rows·row-at code.function (code.unfolded 𝓤 H 𝓜 𝓡)
+    (row-at.clauses 𝓤 H (𝓖 .A) (𝓜 .mem) (𝓡 .run)) #object-list·row-at code.function (code.unfolded 𝓤 H 𝓜 𝓡)
     (row-at-walks 𝓤 H (𝓖 .A) (givenOf 𝓤 H 𝓜 𝓖) (𝓜 .mem) (𝓡 .run) (over 𝓤 H 𝓜 𝓖 𝓡 code.env)
     (cited 𝓤 H (DeadRow 𝓤 H (𝓖 .A) (𝓜 .mem) (𝓡 .run)) 𝓜 𝓡 code.env #object·dead dead-row-def.routine code.calls-object·dead (dead-row-thm.met 𝓤 H 𝓜 𝓖 𝓡)))

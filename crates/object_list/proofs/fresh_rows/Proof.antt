@@ -1,4 +1,4 @@
--- `all_rows::fresh_rows` meets its contract: a walk of its MIR, by hand. The borrow is opened once, before the loop. A turn takes one row out, stores the dead row in its place, and puts it back.
+-- `object_list::fresh_rows` meets its contract: a walk of its MIR, by hand. The borrow is opened once, before the loop. A turn takes one row out, stores the dead row in its place, and puts it back.
 -- The invariant, where t rows are left: i is n - t, and the first n - t rows are dead. Assumes nothing.
 use mathlib.Core.Path.{_≡_, refl, sym, _∙_, ap, subst}
 use mathlib.Core.Bool.{Bool}
@@ -50,11 +50,11 @@ use Rattle.object.proofs.dead as dead-row
 use Rattle.object.proofs.dead.Symbol as dead-row-def
 use Rattle.object.proofs.dead.Symbol.{name as #object·dead}
 use Rattle.object.proofs.dead.Met as dead-row-thm
-use Rattle.all_rows.proofs.fresh_rows.Key.{name as #all-rows·fresh-rows}
-use Rattle.all_rows.proofs.fresh_rows as fresh-rows
-use Rattle.all_rows.proofs.fresh_rows.Statement as stated
-use Rattle.all_rows.proofs.fresh_rows.Code as code
-use Rattle.all_rows.proofs.fresh_rows.Code.Mir as steps
+use Rattle.object_list.proofs.fresh_rows.Key.{name as #object-list·fresh-rows}
+use Rattle.object_list.proofs.fresh_rows as fresh-rows
+use Rattle.object_list.proofs.fresh_rows.Statement as stated
+use Rattle.object_list.proofs.fresh_rows.Code as code
+use Rattle.object_list.proofs.fresh_rows.Code.Mir as steps
 
 abbrev stayed : Stays (fresh-rows.ended .signature .params) (fresh-rows.ended .kept)
 stayed = (stay-slice (0 ∷ []) tt (plain (λ _. O.the-row)), tt)
@@ -215,6 +215,6 @@ module _ {M : Type 1} (𝓤 : URA M) (H : Heap 𝓤) (A : Atoms 𝓤) (W : Given
 pub fresh-rows-spec : {M : Type 1} → stated.statement M
 unfolding code.routine tablesOf
 fresh-rows-spec 𝓤 H 𝓜 𝓖 𝓡 =
-    concluded 𝓤 H 𝓜 𝓖 𝓡 code.env fresh-rows.ended stayed (goes-slice 𝓤 H (𝓖 .A) (givenOf 𝓤 H 𝓜 𝓖) 1 0 tt (plain (λ _. O.the-row)), tt) (fresh-rows.clauses 𝓤 H (𝓖 .A) (𝓜 .mem) (𝓡 .run)) #all-rows·fresh-rows code.function (code.unfolded 𝓤 H 𝓜 𝓡)
+    concluded 𝓤 H 𝓜 𝓖 𝓡 code.env fresh-rows.ended stayed (goes-slice 𝓤 H (𝓖 .A) (givenOf 𝓤 H 𝓜 𝓖) 1 0 tt (plain (λ _. O.the-row)), tt) (fresh-rows.clauses 𝓤 H (𝓖 .A) (𝓜 .mem) (𝓡 .run)) #object-list·fresh-rows code.function (code.unfolded 𝓤 H 𝓜 𝓡)
     (fresh-rows-walks 𝓤 H (𝓖 .A) (givenOf 𝓤 H 𝓜 𝓖) (𝓜 .mem) (𝓡 .run) (over 𝓤 H 𝓜 𝓖 𝓡 code.env)
     (cited 𝓤 H (DeadRow 𝓤 H (𝓖 .A) (𝓜 .mem) (𝓡 .run)) 𝓜 𝓡 code.env #object·dead dead-row-def.routine code.calls-object·dead (dead-row-thm.met 𝓤 H 𝓜 𝓖 𝓡)))

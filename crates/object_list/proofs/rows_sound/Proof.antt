@@ -1,4 +1,4 @@
--- `all_rows::rows_sound` meets its contract: a walk of its MIR, by hand. A list of another length is answered at once. Else the slice is looked into once, before the loop; a turn takes one row out of it, copies it, calls `object::sound` and puts the row back.
+-- `object_list::rows_sound` meets its contract: a walk of its MIR, by hand. A list of another length is answered at once. Else the slice is looked into once, before the loop; a turn takes one row out of it, copies it, calls `object::sound` and puts the row back.
 -- The invariant, where t rows are left: i is 64 - t, and the first 64 - t rows are sound.
 -- Assumes nothing.
 use mathlib.Core.Path.{_≡_, refl, sym, subst}
@@ -57,11 +57,11 @@ use Rattle.object.proofs.sound.Symbol.{name as #object·sound}
 use Rattle.object.proofs.sound.Met as row-sound-thm
 use Rattle.tables.specs.Tables.{soundObjects}
 use Rattle.walks.proofs.Walk.{is-false, calls-exact, forks, gone1, concluded, over}
-use Rattle.all_rows.proofs.rows_sound.Key.{name as #all-rows·rows-sound}
-use Rattle.all_rows.proofs.rows_sound as rows-sound
-use Rattle.all_rows.proofs.rows_sound.Statement as stated
-use Rattle.all_rows.proofs.rows_sound.Code as code
-use Rattle.all_rows.proofs.rows_sound.Code.Mir as steps
+use Rattle.object_list.proofs.rows_sound.Key.{name as #object-list·rows-sound}
+use Rattle.object_list.proofs.rows_sound as rows-sound
+use Rattle.object_list.proofs.rows_sound.Statement as stated
+use Rattle.object_list.proofs.rows_sound.Code as code
+use Rattle.object_list.proofs.rows_sound.Code.Mir as steps
 
 abbrev stayed : Stays (rows-sound.ended .signature .params) (rows-sound.ended .kept)
 stayed = (stay-none-slice (0 ∷ []) tt (plain (λ _. O.the-row)) yes, tt)
@@ -229,6 +229,6 @@ module _ {M : Type 1} (𝓤 : URA M) (H : Heap 𝓤) (A : Atoms 𝓤) (W : Given
 pub rows-sound-spec : {M : Type 1} → stated.statement M
 unfolding code.routine tablesOf
 rows-sound-spec 𝓤 H 𝓜 𝓖 𝓡 =
-    concluded 𝓤 H 𝓜 𝓖 𝓡 code.env rows-sound.ended stayed (goes-none-slice 𝓤 H (𝓖 .A) (givenOf 𝓤 H 𝓜 𝓖) 1 (0 ∷ []) tt (plain (λ _. O.the-row)) yes, tt) (rows-sound.clauses 𝓤 H (𝓖 .A) (𝓜 .mem) (𝓡 .run)) #all-rows·rows-sound code.function (code.unfolded 𝓤 H 𝓜 𝓡)
+    concluded 𝓤 H 𝓜 𝓖 𝓡 code.env rows-sound.ended stayed (goes-none-slice 𝓤 H (𝓖 .A) (givenOf 𝓤 H 𝓜 𝓖) 1 (0 ∷ []) tt (plain (λ _. O.the-row)) yes, tt) (rows-sound.clauses 𝓤 H (𝓖 .A) (𝓜 .mem) (𝓡 .run)) #object-list·rows-sound code.function (code.unfolded 𝓤 H 𝓜 𝓡)
     (rows-sound-walks 𝓤 H (𝓖 .A) (givenOf 𝓤 H 𝓜 𝓖) (𝓜 .mem) (𝓡 .run) (over 𝓤 H 𝓜 𝓖 𝓡 code.env)
     (cited 𝓤 H (RowSound 𝓤 H (𝓖 .A) (𝓜 .mem) (𝓡 .run)) 𝓜 𝓡 code.env #object·sound row-sound-def.routine code.calls-object·sound (row-sound-thm.met 𝓤 H 𝓜 𝓖 𝓡)))

@@ -1,4 +1,4 @@
--- `rows::count` meets its contract: a walk of its MIR, by hand. The borrow is opened, the record is copied, `tables::add` is called, its result is stored, and the borrow is closed at it.
+-- `tally::count` meets its contract: a walk of its MIR, by hand. The borrow is opened, the record is copied, `tables::add` is called, its result is stored, and the borrow is closed at it.
 -- Assumes nothing.
 use mathlib.Core.Path.{refl}
 use Prim.Native.Nat.{ℕ}
@@ -46,10 +46,10 @@ use Rattle.tables.proofs.add as add
 use Rattle.tables.proofs.add.Symbol as add-def
 use Rattle.tables.proofs.add.Symbol.{name as #tables·add}
 use Rattle.tables.proofs.add.Met as add-thm
-use Rattle.rows.proofs.count.Key.{name as #rows·count}
-use Rattle.rows.proofs.count as count
-use Rattle.rows.proofs.count.Statement as stated
-use Rattle.rows.proofs.count.Code as code
+use Rattle.tally.proofs.count.Key.{name as #tally·count}
+use Rattle.tally.proofs.count as count
+use Rattle.tally.proofs.count.Statement as stated
+use Rattle.tally.proofs.count.Code as code
 
 abbrev stayed : Stays (count.ended .signature .params) (count.ended .kept)
 stayed = (stay-ref (0 ∷ []) tt (plain (λ _. T.the-row)), (stay-none (λ _. E.the-row) yes, tt))
@@ -110,6 +110,6 @@ pub count-spec : {M : Type 1} → stated.statement M
 unfolding code.routine tablesOf
 count-spec 𝓤 H 𝓜 𝓖 𝓡 =
     concluded 𝓤 H 𝓜 𝓖 𝓡 code.env count.ended stayed (goes-ref 𝓤 H (𝓖 .A) (givenOf 𝓤 H 𝓜 𝓖) 1 0 tt (plain (λ _. T.the-row)), (goes-none 𝓤 H (𝓖 .A) (givenOf 𝓤 H 𝓜 𝓖) 1 (λ _. E.the-row) yes (λ κs x f. refl), tt))
-    (count.clauses 𝓤 H (𝓖 .A) (𝓜 .mem) (𝓡 .run)) #rows·count code.function (code.unfolded 𝓤 H 𝓜 𝓡)
+    (count.clauses 𝓤 H (𝓖 .A) (𝓜 .mem) (𝓡 .run)) #tally·count code.function (code.unfolded 𝓤 H 𝓜 𝓡)
     (count-walks 𝓤 H (𝓖 .A) (givenOf 𝓤 H 𝓜 𝓖) (𝓜 .mem) (𝓡 .run) (over 𝓤 H 𝓜 𝓖 𝓡 code.env)
     (cited 𝓤 H (Add 𝓤 H (𝓖 .A) (𝓜 .mem) (𝓡 .run)) 𝓜 𝓡 code.env #tables·add add-def.routine code.calls-tables·add (add-thm.met 𝓤 H 𝓜 𝓖 𝓡)))

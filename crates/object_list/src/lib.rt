@@ -1,10 +1,32 @@
-// Walks over the whole list of object rows that the caller lends: whether each is sound, and all made dead.
+// The list of object rows that the caller lends: one row copied or stored, whether all are sound, and all made dead.
 use object::Object;
-use rows::SLOTS;
 ghost use mathlib.Core.Path.{_≡_};
-ghost use lib.ListN.{length, replicate};
+ghost use lib.ListN.{length, getD, set, replicate};
 ghost use Rattle.object.specs.Row.{dead};
 ghost use Rattle.tables.specs.Tables.{soundObjects};
+
+// How many records the list has.
+pub const SLOTS: usize = 64;
+
+// A copy of row i, and of the dead row past the end.
+pub fn row_at(objects: &[Object], i: usize) -> Object
+    ensures { λ r. ⌜ r ≡ getD (now (objects .entry)) i dead ⌝ }
+{
+    if objects.len() <= i {
+        return object::dead();
+    }
+    objects[i]
+}
+
+// Stores a row at i, and past the end nothing.
+pub fn put_row(objects: &mut [Object], i: usize, row: Object)
+    ensures { λ _. ⌜ now (objects .exit) ≡ set (now (objects .entry)) i row ⌝ }
+{
+    if objects.len() <= i {
+        return;
+    }
+    objects[i] = row;
+}
 
 // Whether the list has 64 records and each is sound; the first that is not ends the check.
 pub fn rows_sound(objects: &[Object]) -> bool
