@@ -10,7 +10,7 @@ use Rattle.block.specs.declared.Verdict.{Verdict}
 use Rattle.tables.specs.declared.Tally.{Tally}
 use Rattle.lent.specs.Entries.{tablesOf, stateOf}
 use Rattle.lent_run.specs.declared.Checked.{Checked}
-use Rattle.lent_run.specs.Laws.{Fits}
+use Rattle.lent_run_laws.specs.Laws.{Fits}
 use Rattle.lines.specs.Lines.{lineOf}
 use Rattle.printed.specs.Run.{freshState}
 use Rattle.printed.specs.Text.{traceRefusal, lastOf, textLines, joined, textOf}

@@ -2,7 +2,7 @@
 -- Assumes nothing.
 use mathlib.Core.Path.{_≡_}
 use mathlib.Core.Bool.{Bool, cond}
-use mathlib.Core.List.{List, [], _∷_}
+use mathlib.Core.List.{List}
 use Prim.Native.Nat.{ℕ}
 use lib.ListN.{getD, set}
 use Rattle.steps.specs.declared.Step.{Step}
@@ -65,15 +65,3 @@ pub record GoneOn (x : State) (c : Checked) (s : Step) (g : Gone) (b : Block) (l
   pub block : b ≡ onward x c s .state .tables .block
   pub objects : l ≡ onward x c s .state .tables .objects
   pub tally : y ≡ onward x c s .state .tally
-
--- ---- a run: some steps gone on with one after the other
-
--- their verdicts
-abbrev pub verdictsOn : State → Checked → List Step → List Verdict
-verdictsOn x c [] = []
-verdictsOn x c (s ∷ l) = onward x c s .verdict ∷ verdictsOn (onward x c s .state) (onward x c s .checked) l
-
--- tables and tally after them
-abbrev pub stateOn : State → Checked → List Step → State
-stateOn x c [] = x
-stateOn x c (s ∷ l) = stateOn (onward x c s .state) (onward x c s .checked) l

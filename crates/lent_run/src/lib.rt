@@ -108,6 +108,6 @@ pub fn go_on(b: &mut Block, objects: &mut [Object], tally: &mut Tally, c: Checke
     let d = decisions::decide(seen, row, s);
     object_list::put_row(objects, at, d.object);
     tally::count(tally, d.verdict);
-    in_place::change(b, d.change);
+    lent_change::change(b, d.change);
     answer(c, s, d.verdict)
 }

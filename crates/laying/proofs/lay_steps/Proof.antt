@@ -11,8 +11,8 @@ use Rattle.owned.specs.declared.OwnedTurn.{OwnedTurn}
 use Rattle.owned.specs.Owner.{stateIn, ownedFresh}
 use Rattle.lent_run.specs.declared.Checked.{Checked}
 use Rattle.lent_run.specs.Run.{checkedOf}
-use Rattle.lent_run.specs.Laws.{Fits}
-use Rattle.lent_run.proofs.Laws.{check-fits}
+use Rattle.lent_run_laws.specs.Laws.{Fits}
+use Rattle.lent_run_laws.proofs.Laws.{check-fits}
 use Rattle.looking.specs.declared.Laying.{Laying}
 use Rattle.laying.proofs.Buffer.{owns-fresh}
 use Rattle.laying.proofs.lay_steps.Statement.{statement}

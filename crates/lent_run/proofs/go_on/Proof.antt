@@ -97,10 +97,10 @@ use Rattle.tally.proofs.count as count
 use Rattle.tally.proofs.count.Symbol as count-def
 use Rattle.tally.proofs.count.Symbol.{name as #tally·count}
 use Rattle.tally.proofs.count.Met as count-thm
-use Rattle.in_place.proofs.change as change
-use Rattle.in_place.proofs.change.Symbol as change-def
-use Rattle.in_place.proofs.change.Symbol.{name as #in-place·change}
-use Rattle.in_place.proofs.change.Met as change-thm
+use Rattle.lent_change.proofs.change as change
+use Rattle.lent_change.proofs.change.Symbol as change-def
+use Rattle.lent_change.proofs.change.Symbol.{name as #lent-change·change}
+use Rattle.lent_change.proofs.change.Met as change-thm
 use Rattle.lent_run.specs.declared.Checked.{Checked}
 use Rattle.lent_run.specs.declared.Gone.{Gone}
 use Rattle.lent_run.specs.Run.{checkedAfter, decidedWith, GoneOn}
@@ -154,7 +154,7 @@ module _ {M : Type 1} (𝓤 : URA M) (H : Heap 𝓤) (A : Atoms 𝓤) (at-mem : 
     pub decide : Triple 𝓤 (C #decisions·decide) Decide
     pub put-row : Triple 𝓤 (C #object-list·put-row) PutRow
     pub count : Triple 𝓤 (C #tally·count) Count
-    pub change : Triple 𝓤 (C #in-place·change) Changes
+    pub change : Triple 𝓤 (C #lent-change·change) Changes
     pub answer : Triple 𝓤 (C #lent-run·answer) Answers
 
 -- where what is known of the tables has its parts, and a decision; said here, so that the walk does not measure them
@@ -419,6 +419,6 @@ go-on-spec 𝓤 H 𝓜 𝓖 𝓡 =
       decide = cited 𝓤 H (Decide 𝓤 H (𝓖 .A) (𝓜 .mem) (𝓡 .run)) 𝓜 𝓡 code.env #decisions·decide decide-def.routine code.calls-decisions·decide (decide-thm.met 𝓤 H 𝓜 𝓖 𝓡);
       put-row = cited 𝓤 H (PutRow 𝓤 H (𝓖 .A) (𝓜 .mem) (𝓡 .run)) 𝓜 𝓡 code.env #object-list·put-row put-row-def.routine code.calls-object-list·put-row (put-row-thm.met 𝓤 H 𝓜 𝓖 𝓡);
       count = cited 𝓤 H (Count 𝓤 H (𝓖 .A) (𝓜 .mem) (𝓡 .run)) 𝓜 𝓡 code.env #tally·count count-def.routine code.calls-tally·count (count-thm.met 𝓤 H 𝓜 𝓖 𝓡);
-      change = cited 𝓤 H (Changes 𝓤 H (𝓖 .A) (𝓜 .mem) (𝓡 .run)) 𝓜 𝓡 code.env #in-place·change change-def.routine code.calls-in-place·change (change-thm.met 𝓤 H 𝓜 𝓖 𝓡);
+      change = cited 𝓤 H (Changes 𝓤 H (𝓖 .A) (𝓜 .mem) (𝓡 .run)) 𝓜 𝓡 code.env #lent-change·change change-def.routine code.calls-lent-change·change (change-thm.met 𝓤 H 𝓜 𝓖 𝓡);
       answer = cited 𝓤 H (Answers 𝓤 H (𝓖 .A) (𝓜 .mem) (𝓡 .run)) 𝓜 𝓡 code.env #lent-run·answer answer-def.routine code.calls-lent-run·answer (answer-thm.met 𝓤 H 𝓜 𝓖 𝓡);
     }))

@@ -57,7 +57,7 @@ use Rattle.barriers.specs.Changes.{firstOpening}
 use Rattle.tables.specs.Tables.{isExit, namedBarrier, barrierFor}
 use Rattle.walks.proofs.Walk.{is-false, calls-exact, forks, gone1, concluded, over}
 use Rattle.walks.proofs.Lend.{part-shut}
-use Rattle.in_place.proofs.Field.{Barriers, barriers-kept, barriers-out, barriers-in}
+use Rattle.lent_change.proofs.Field.{Barriers, barriers-kept, barriers-out, barriers-in}
 use Rattle.decisions.proofs.is_exit as is-exit
 use Rattle.decisions.proofs.is_exit.Symbol as is-exit-def
 use Rattle.decisions.proofs.is_exit.Symbol.{name as #decisions·is-exit}

@@ -64,7 +64,7 @@ use Rattle.tables.proofs.Seen as X
 use Rattle.tables.proofs.Seen.Laws as X′
 use Rattle.walks.proofs.Walk.{calls-exact, gone1, concluded, over}
 use Rattle.walks.proofs.Lend.{Back, part-shut, rows-shared, rows-shared-back, record-lent, record-lent-back, calls-lending}
-use Rattle.in_place.proofs.Field.{Barriers, Rows, barriers-kept, barriers-out, barriers-in, rows-kept, rows-out, rows-in}
+use Rattle.lent_change.proofs.Field.{Barriers, Rows, barriers-kept, barriers-out, barriers-in, rows-kept, rows-out, rows-in}
 use Rattle.block_rows.proofs.warp_at as warp-at
 use Rattle.block_rows.proofs.warp_at.Symbol as warp-at-def
 use Rattle.block_rows.proofs.warp_at.Symbol.{name as #block-rows·warp-at}

@@ -2,8 +2,8 @@ use mathlib.Core.Path.{sym, _∙_}
 use native.Mathlib.Omega.{arith}
 use borrow.Author.Tests.{lt-ltb, le-ltb, not-true, not-false}
 use borrow.Author.Needs.{needs}
-use Rattle.released.proofs.released_at.Statement.{statement}
-use Rattle.released.proofs.released_at.Tie as tie
+use Rattle.lent_change.proofs.released_at.Statement.{statement}
+use Rattle.lent_change.proofs.released_at.Tie as tie
 
 cast-if1 : tie.Need-cast-if1
 cast-if1 c = search needs

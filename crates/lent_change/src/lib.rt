@@ -1,5 +1,7 @@
-// Warps released where the block's rows lie.
+// The block changed where it lies: whoever lends it has it changed without a copy.
+use barriers::Change;
 use barriers::Freed;
+use block::Block;
 use block::MOST_WARPS;
 use block::Status;
 use block::Warp;
@@ -7,6 +9,7 @@ ghost use mathlib.Core.Path.{_≡_};
 ghost use mathlib.Core.Bool.{cond};
 ghost use lib.Dec.{ltb};
 ghost use Rattle.barriers.specs.Steps.{releasedWarp, releasedWarps};
+ghost use Rattle.barriers.specs.Changes.{changed};
 
 // The row at i after a release; rows past the last warp stay.
 fn released_at(f: Freed, i: usize, row: Warp) -> Warp
@@ -31,7 +34,7 @@ fn released_at(f: Freed, i: usize, row: Warp) -> Warp
 }
 
 // Releases the warps of a set; where it is empty, no row is looked at.
-pub fn release(rows: &mut [Warp], f: Freed)
+fn release(rows: &mut [Warp], f: Freed)
     ensures { λ _. ⌜ now (rows .exit) ≡ releasedWarps f (now (rows .entry)) ⌝ }
 {
     if f.set == 0 {
@@ -43,4 +46,13 @@ pub fn release(rows: &mut [Warp], f: Freed)
         rows[i] = released_at(f, i, rows[i]);
         i += 1;
     }
+}
+
+// Makes a change in the block.
+pub fn change(b: &mut Block, c: Change)
+    ensures { λ _. ⌜ now (b .exit) ≡ changed (now (b .entry)) c ⌝ }
+{
+    block_rows::put_barrier(&mut b.barriers, c.barrier, c.row);
+    block_rows::put_status(&mut b.rows, c.warp, c.status);
+    release(&mut b.rows, c.freed);
 }

@@ -1,4 +1,4 @@
--- `in_place::change` meets its contract: a walk of its MIR, by hand. The borrow is opened, so that the block lies in memory; for each of the three calls one of its arrays is taken out of it, lent as a slice for the call alone and put back (`Field`); the borrow is closed at the end.
+-- `lent_change::change` meets its contract: a walk of its MIR, by hand. The borrow is opened, so that the block lies in memory; for each of the three calls one of its arrays is taken out of it, lent as a slice for the call alone and put back (`Field`); the borrow is closed at the end.
 -- Assumes nothing.
 use mathlib.Core.Path.{_≡_, refl}
 use mathlib.Core.Option.{some}
@@ -61,7 +61,7 @@ use Rattle.barriers.proofs.Change as N
 use Rattle.barriers.proofs.Change.Laws as N′
 use Rattle.walks.proofs.Walk.{gone1, concluded, over}
 use Rattle.walks.proofs.Lend.{calls-lending}
-use Rattle.in_place.proofs.Field.{array-lent, array-lent-back, Barriers, Rows, barriers-kept, barriers-out, barriers-in, rows-kept, rows-out, rows-in}
+use Rattle.lent_change.proofs.Field.{array-lent, array-lent-back, Barriers, Rows, barriers-kept, barriers-out, barriers-in, rows-kept, rows-out, rows-in}
 use Rattle.block_rows.proofs.put_barrier as put-barrier
 use Rattle.block_rows.proofs.put_barrier.Symbol as put-barrier-def
 use Rattle.block_rows.proofs.put_barrier.Symbol.{name as #block-rows·put-barrier}
@@ -70,14 +70,14 @@ use Rattle.block_rows.proofs.put_status as put-status
 use Rattle.block_rows.proofs.put_status.Symbol as put-status-def
 use Rattle.block_rows.proofs.put_status.Symbol.{name as #block-rows·put-status}
 use Rattle.block_rows.proofs.put_status.Met as put-status-thm
-use Rattle.released.proofs.release as release
-use Rattle.released.proofs.release.Symbol as release-def
-use Rattle.released.proofs.release.Symbol.{name as #released·release}
-use Rattle.released.proofs.release.Met as release-thm
-use Rattle.in_place.proofs.change.Key.{name as #in-place·change}
-use Rattle.in_place.proofs.change as change
-use Rattle.in_place.proofs.change.Statement as stated
-use Rattle.in_place.proofs.change.Code as code
+use Rattle.lent_change.proofs.release as release
+use Rattle.lent_change.proofs.release.Symbol as release-def
+use Rattle.lent_change.proofs.release.Symbol.{name as #lent-change·release}
+use Rattle.lent_change.proofs.release.Met as release-thm
+use Rattle.lent_change.proofs.change.Key.{name as #lent-change·change}
+use Rattle.lent_change.proofs.change as change
+use Rattle.lent_change.proofs.change.Statement as stated
+use Rattle.lent_change.proofs.change.Code as code
 
 abbrev stayed : Stays (change.ended .signature .params) (change.ended .kept)
 stayed = (stay-ref (0 ∷ []) tt (plain (λ _. B.the-row)), (stay-none (λ _. N.the-row) yes, tt))
@@ -96,7 +96,7 @@ module _ {M : Type 1} (𝓤 : URA M) (H : Heap 𝓤) (A : Atoms 𝓤) (at-mem : 
   pub record Known (C : Calls 𝓤 H) : Type 1 where
     pub put-barrier : Triple 𝓤 (C #block-rows·put-barrier) PutBarrier
     pub put-status : Triple 𝓤 (C #block-rows·put-status) PutStatus
-    pub release : Triple 𝓤 (C #released·release) Release
+    pub release : Triple 𝓤 (C #lent-change·release) Release
 
 -- where a block has its arrays, and that there is room for them; said here, so that the walk does not measure them
 rows-at : fieldOf B′.mir 1 ≡ some (tyArray U′.mir 32, 4)
@@ -214,9 +214,9 @@ pub change-spec : {M : Type 1} → stated.statement M
 unfolding code.routine tablesOf
 change-spec 𝓤 H 𝓜 𝓖 𝓡 =
     concluded 𝓤 H 𝓜 𝓖 𝓡 code.env change.ended stayed (goes-ref 𝓤 H (𝓖 .A) (givenOf 𝓤 H 𝓜 𝓖) 1 0 tt (plain (λ _. B.the-row)), (goes-none 𝓤 H (𝓖 .A) (givenOf 𝓤 H 𝓜 𝓖) 1 (λ _. N.the-row) yes (λ κs x f. refl), tt))
-    (change.clauses 𝓤 H (𝓖 .A) (𝓜 .mem) (𝓡 .run)) #in-place·change code.function (code.unfolded 𝓤 H 𝓜 𝓡)
+    (change.clauses 𝓤 H (𝓖 .A) (𝓜 .mem) (𝓡 .run)) #lent-change·change code.function (code.unfolded 𝓤 H 𝓜 𝓡)
     (change-walks 𝓤 H (𝓖 .A) (givenOf 𝓤 H 𝓜 𝓖) (𝓜 .mem) (𝓡 .run) (over 𝓤 H 𝓜 𝓖 𝓡 code.env) (record {
       put-barrier = cited 𝓤 H (PutBarrier 𝓤 H (𝓖 .A) (𝓜 .mem) (𝓡 .run)) 𝓜 𝓡 code.env #block-rows·put-barrier put-barrier-def.routine code.calls-block-rows·put-barrier (put-barrier-thm.met 𝓤 H 𝓜 𝓖 𝓡);
       put-status = cited 𝓤 H (PutStatus 𝓤 H (𝓖 .A) (𝓜 .mem) (𝓡 .run)) 𝓜 𝓡 code.env #block-rows·put-status put-status-def.routine code.calls-block-rows·put-status (put-status-thm.met 𝓤 H 𝓜 𝓖 𝓡);
-      release = cited 𝓤 H (Release 𝓤 H (𝓖 .A) (𝓜 .mem) (𝓡 .run)) 𝓜 𝓡 code.env #released·release release-def.routine code.calls-released·release (release-thm.met 𝓤 H 𝓜 𝓖 𝓡);
+      release = cited 𝓤 H (Release 𝓤 H (𝓖 .A) (𝓜 .mem) (𝓡 .run)) 𝓜 𝓡 code.env #lent-change·release release-def.routine code.calls-lent-change·release (release-thm.met 𝓤 H 𝓜 𝓖 𝓡);
     }))

@@ -1,4 +1,4 @@
--- `released::release` meets its contract: a walk of its MIR, by hand. Where the set is empty it returns at once. Else the borrow is opened once, before the loop; a turn takes one row out, copies it, calls `released_at` and stores its result in the row's place. When the loop is left the borrow is closed at the rows with the set's warps released.
+-- `lent_change::release` meets its contract: a walk of its MIR, by hand. Where the set is empty it returns at once. Else the borrow is opened once, before the loop; a turn takes one row out, copies it, calls `released_at` and stores its result in the row's place. When the loop is left the borrow is closed at the rows with the set's warps released.
 -- The invariant, where t rows are left: i is the length less t, and the set's warps among the first i are released.
 -- Assumes nothing.
 use mathlib.Core.Path.{_≡_, refl, sym, _∙_, ap, subst}
@@ -53,16 +53,16 @@ use Rattle.block.proofs.Warp as R
 use Rattle.block.proofs.Warp.Laws as R′
 use Rattle.barriers.specs.Steps.{releasedWarps}
 use Rattle.walks.proofs.Walk.{calls-exact, forks, gone1, concluded, over}
-use Rattle.released.proofs.Rows.{firsts-none, length-firsts, firsts-next, releasedRow, releasedTo, released-all, none-released}
-use Rattle.released.proofs.released_at as released-at
-use Rattle.released.proofs.released_at.Symbol as released-at-def
-use Rattle.released.proofs.released_at.Symbol.{name as #released·released-at}
-use Rattle.released.proofs.released_at.Met as released-at-thm
-use Rattle.released.proofs.release.Key.{name as #released·release}
-use Rattle.released.proofs.release as release
-use Rattle.released.proofs.release.Statement as stated
-use Rattle.released.proofs.release.Code as code
-use Rattle.released.proofs.release.Code.Mir as steps
+use Rattle.lent_change.proofs.Rows.{firsts-none, length-firsts, firsts-next, releasedRow, releasedTo, released-all, none-released}
+use Rattle.lent_change.proofs.released_at as released-at
+use Rattle.lent_change.proofs.released_at.Symbol as released-at-def
+use Rattle.lent_change.proofs.released_at.Symbol.{name as #lent-change·released-at}
+use Rattle.lent_change.proofs.released_at.Met as released-at-thm
+use Rattle.lent_change.proofs.release.Key.{name as #lent-change·release}
+use Rattle.lent_change.proofs.release as release
+use Rattle.lent_change.proofs.release.Statement as stated
+use Rattle.lent_change.proofs.release.Code as code
+use Rattle.lent_change.proofs.release.Code.Mir as steps
 
 abbrev stayed : Stays (release.ended .signature .params) (release.ended .kept)
 stayed = (stay-slice (0 ∷ []) tt (plain (λ _. R.the-row)), (stay-none (λ _. F.the-row) yes, tt))
@@ -131,7 +131,7 @@ module _ {M : Type 1} (𝓤 : URA M) (H : Heap 𝓤) (A : Atoms 𝓤) (W : Given
       suffices ! _ (ends-at 𝓤 H A release.ended stayed (release.clauses 𝓤 H A mem run) W (((κ, tt), (q, tt), tt, x, at), tt) vunit tt (ys, (tt, tt)) (refl, (tt, tt))) $ says ! e $
       frame ! $ frame ! $ feqI ! (List Val) (vunit ∷ []) (vunit ∷ []) refl $ done !
 
-  module _ (𝓣 : Tables 𝓤 H) (released : Triple 𝓤 (𝓣 .C #released·released-at) (ReleasedAt 𝓤 H A mem run)) (is-f : Is F.the-row f (mach-f ∷ [])) where
+  module _ (𝓣 : Tables 𝓤 H) (released : Triple 𝓤 (𝓣 .C #lent-change·released-at) (ReleasedAt 𝓤 H A mem run)) (is-f : Is F.the-row f (mach-f ∷ [])) where
     module _ (l₀ l₁ l₂ l₃ l₄ l₅ l₆ l₇ l₈ l₉ l₁₀ l₁₁ l₁₂ : ℕ) where
       abbrev En : Env 𝓤 H
       En = (tyUnit, l₀) ∷ (slice, l₁) ∷ (F′.mir, l₂) ∷ (word, l₃) ∷ (word, l₄) ∷ (tyBool, l₅) ∷ (tyBool, l₆) ∷ (R′.mir, l₇) ∷ (word, l₈) ∷ (tyPtr, l₉) ∷ (R′.mir, l₁₀) ∷ (word, l₁₁) ∷ (tyPtr, l₁₂) ∷ []
@@ -251,7 +251,7 @@ module _ {M : Type 1} (𝓤 : URA M) (H : Heap 𝓤) (A : Atoms 𝓤) (W : Given
         none m = omega arith
 
 module _ {M : Type 1} (𝓤 : URA M) (H : Heap 𝓤) (A : Atoms 𝓤) (W : Given 𝓤 H A) (mem : Memory → SProp 𝓤) (run : Routine → Fun 𝓤) (𝓣 : Tables 𝓤 H) where
-  release-walks : Triple 𝓤 (𝓣 .C #released·released-at) (ReleasedAt 𝓤 H A mem run) → Walks 𝓤 H A release.ended stayed (WpFn 𝓤 H (𝓣 .C) (𝓣 .Λ) code.function) (release.clauses 𝓤 H A mem run)
+  release-walks : Triple 𝓤 (𝓣 .C #lent-change·released-at) (ReleasedAt 𝓤 H A mem run) → Walks 𝓤 H A release.ended stayed (WpFn 𝓤 H (𝓣 .C) (𝓣 .Λ) code.function) (release.clauses 𝓤 H A mem run)
   release-walks released = walked 𝓤 H A release.ended stayed (release.clauses 𝓤 H A mem run) (WpFn 𝓤 H (𝓣 .C) (𝓣 .Λ) code.function)
       (λ κs. (slice-vals, (LL.vals F.the-type F′.the-laws, tt))) (λ κs. (mut-slice-tells (named 0) (κs .0) R.the-row, (LL.tells F.the-type F′.the-laws, tt)))
       (λ κs qs bounds a g are. via 𝓤 _ (fst∗ 𝓤 _ (emp 𝓤))
@@ -262,6 +262,6 @@ unfolding code.routine tablesOf
 release-spec 𝓤 H 𝓜 𝓖 𝓡 =
     concluded 𝓤 H 𝓜 𝓖 𝓡 code.env release.ended stayed
     (goes-slice 𝓤 H (𝓖 .A) (givenOf 𝓤 H 𝓜 𝓖) 1 0 tt (plain (λ _. R.the-row)), (goes-none 𝓤 H (𝓖 .A) (givenOf 𝓤 H 𝓜 𝓖) 1 (λ _. F.the-row) yes (λ κs x f. refl), tt))
-    (release.clauses 𝓤 H (𝓖 .A) (𝓜 .mem) (𝓡 .run)) #released·release code.function (code.unfolded 𝓤 H 𝓜 𝓡)
+    (release.clauses 𝓤 H (𝓖 .A) (𝓜 .mem) (𝓡 .run)) #lent-change·release code.function (code.unfolded 𝓤 H 𝓜 𝓡)
     (release-walks 𝓤 H (𝓖 .A) (givenOf 𝓤 H 𝓜 𝓖) (𝓜 .mem) (𝓡 .run) (over 𝓤 H 𝓜 𝓖 𝓡 code.env)
-    (cited 𝓤 H (ReleasedAt 𝓤 H (𝓖 .A) (𝓜 .mem) (𝓡 .run)) 𝓜 𝓡 code.env #released·released-at released-at-def.routine code.calls-released·released-at (released-at-thm.met 𝓤 H 𝓜 𝓖 𝓡)))
+    (cited 𝓤 H (ReleasedAt 𝓤 H (𝓖 .A) (𝓜 .mem) (𝓡 .run)) 𝓜 𝓡 code.env #lent-change·released-at released-at-def.routine code.calls-lent-change·released-at (released-at-thm.met 𝓤 H 𝓜 𝓖 𝓡)))

@@ -2,11 +2,12 @@
 -- Assumes nothing.
 use mathlib.Core.Path.{_≡_}
 use mathlib.Core.Bool.{true, false}
-use mathlib.Core.List.{List}
+use mathlib.Core.List.{List, [], _∷_}
 use lib.ListN.{length, replicate}
 use Rattle.steps.specs.declared.Step.{Step}
 use Rattle.object.specs.declared.Object.{Object}
 use Rattle.block.specs.declared.Block.{Block}
+use Rattle.block.specs.declared.Verdict.{Verdict}
 use Rattle.block.specs.declared.Verdict.the-variants.{Refused}
 use Rattle.block.specs.Tables.{liveOf}
 use Rattle.block_laws.specs.Sound.{Shaped}
@@ -14,9 +15,9 @@ use Rattle.tables.specs.declared.Tally.{Tally}
 use Rattle.tables.specs.Tables.{Tables, soundTables}
 use Rattle.tables.specs.Effect.{State, verdict, next, run, verdicts}
 use Rattle.lent.specs.Entries.{tablesOf, Stepped}
 use Rattle.lent_run.specs.declared.Checked.{Checked}
 use Rattle.lent_run.specs.declared.Gone.{Gone}
-use Rattle.lent_run.specs.Run.{checkedOf, Reached, onward, GoneOn, verdictsOn, stateOn}
+use Rattle.lent_run.specs.Run.{checkedOf, Reached, onward, GoneOn}
 
 -- what is known of tables is so: whether they are sound and, where they are, who has not exited
 pub record Fits (c : Checked) (t : Tables) : Type 0 where
@@ -46,6 +47,16 @@ GoneIsStepped =
     → GoneOn x c s g b l y → Stepped x s (g .verdict) b l y × Fits (g .checked) (tablesOf b l)
 
 -- ---- a run of any length
+
+-- some steps gone on with one after the other: their verdicts
+abbrev pub verdictsOn : State → Checked → List Step → List Verdict
+verdictsOn x c [] = []
+verdictsOn x c (s ∷ l) = onward x c s .verdict ∷ verdictsOn (onward x c s .state) (onward x c s .checked) l
+
+-- tables and tally after them
+abbrev pub stateOn : State → Checked → List Step → State
+stateOn x c [] = x
+stateOn x c (s ∷ l) = stateOn (onward x c s .state) (onward x c s .checked) l
 
 -- over tables of which what is known is so, as after one check: every verdict, and tables and tally at the end, are those of checked steps
 pub record RunAsChecked (x : State) (c : Checked) (l : List Step) : Type 0 where

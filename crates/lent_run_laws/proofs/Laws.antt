@@ -26,9 +26,9 @@ use Rattle.decisions.specs.declared.Decided.{Decided}
 use Rattle.decisions.specs.Decides.{refusing, decidedOn, leftOf}
 use Rattle.decisions.proofs.Decides.{decided-unsound, decision-seen}
 use Rattle.lent.specs.Entries.{tablesOf}
 use Rattle.lent_run.specs.declared.Checked.{Checked}
 use Rattle.lent_run.specs.Run.{checkedAfter, decidedWith, onward}
-use Rattle.lent_run.specs.Laws.{Fits, CheckFits, GoesOn, GoneIsStepped, RunsOn, UnsoundRefused}
+use Rattle.lent_run_laws.specs.Laws.{Fits, CheckFits, GoesOn, GoneIsStepped, RunsOn, UnsoundRefused}
 
 pub check-fits : CheckFits
 check-fits t = record { sound = refl; live = λ h. rw h }
