@@ -11,11 +11,10 @@
  *
  * Both functions keep nothing between calls and may be called from any thread.
  *
- * `rt staticlib archive` proves them and writes target/staticlib/libarchive.a, for
- * x86-64 only. Link it by its path and not with -larchive, which is the name of a
- * well-known library:
+ * `rt staticlib glubotar_c` proves them and writes target/staticlib/libglubotar_c.a,
+ * for x86-64 only:
  *
- *     g++ -O2 main.cpp target/staticlib/libarchive.a
+ *     g++ -O2 main.cpp target/staticlib/libglubotar_c.a
  */
 #ifndef GLUBOTAR_H
 #define GLUBOTAR_H

@@ -3,14 +3,14 @@
 # there and to be made from the sources as they are now; $cxx, a C++ compiler for it
 # (installed where missing) with what it needs to link statically; and $emulator,
 # which runs such programs here and is empty where nothing is needed.
-archive=target/staticlib/libarchive.a
+archive=target/staticlib/libglubotar_c.a
 if [ ! -f "$archive" ]; then
-    echo "$archive is missing; rt staticlib archive makes it" >&2
+    echo "$archive is missing; rt staticlib glubotar_c makes it" >&2
     exit 2
 fi
 newer=$(find crates/*/src crates.txt -newer "$archive" -print | head -n 1)
 if [ -n "$newer" ]; then
-    echo "$archive is older than $newer; rt staticlib archive makes it anew" >&2
+    echo "$archive is older than $newer; rt staticlib glubotar_c makes it anew" >&2
     exit 2
 fi
 

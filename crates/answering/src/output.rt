@@ -5,7 +5,7 @@ use reading::Read;
 ghost use mathlib.Core.Path.{_≡_};
 ghost use Prim.Native.Nat.{_+_};
 ghost use Rattle.io.specs.Counts.{Counts};
-ghost use Rattle.printed.specs.Text.{textOf};
+ghost use Rattle.trace_text.specs.Text.{textOf};
 ghost use Rattle.reading.specs.Reading.{readOf};
 ghost use Rattle.answering.specs.Answers.{next, nothing, inputAnswered, plusFile};
 

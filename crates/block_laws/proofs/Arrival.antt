@@ -12,7 +12,7 @@ use borrow.Author.Tests.{eq-eqb, ne-eqb, eqb-true, lt-ltb}
 use Rattle.sets.specs.Sets.{has}
 use Rattle.block.specs.Tables.{mostWarps, barrierCount, freshWarp, warpAt, barrierAt, isReady, waitsAt, liveOf, soundBlock}
 use Rattle.barrier_row.specs.Rows.{arrivedRow, completes}
-use Rattle.barriers.specs.Steps.{completed, goesOn}
+use Rattle.block_steps.specs.Steps.{completed, goesOn}
 use Rattle.block.specs.declared.Status.the-variants.{Waiting}
 use Rattle.block.specs.declared.Warp.{Warp}
 use Rattle.block.specs.declared.Barrier.{Barrier}

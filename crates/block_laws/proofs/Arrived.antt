@@ -16,7 +16,7 @@ use Rattle.block.specs.declared.Threads.{Threads}
 use Rattle.block.specs.declared.Threads.the-variants.{All, Given}
 use Rattle.block.specs.declared.Call.{Call}
 use Rattle.block_laws.specs.Sound.{Asks}
-use Rattle.block_laws.proofs.General.{by-test, neither}
+use Rattle.folds.proofs.General.{by-test, neither}
 use Rattle.block_laws.proofs.Facts.{Row, Missing, Joins}
 
 -- ---- true lanes

@@ -15,14 +15,14 @@ use Rattle.sets.specs.Sets.{has}
 use Rattle.sets.proofs.Sets.{has-none, has-below, setOf-cong}
 use Rattle.block.specs.Tables.{mostWarps, barrierCount, freshWarp, idle, warpAt, barrierAt, isReduction, isReady, isExited, waitsAt, liveOf, warpSound, soundBlock}
 use Rattle.barrier_row.specs.Rows.{resultOf}
-use Rattle.barriers.specs.Steps.{releasedWarp, releasedWarps, freedBy, completed}
+use Rattle.block_steps.specs.Steps.{releasedWarp, releasedWarps, freedBy, completed}
 use Rattle.block.specs.declared.Status.{Status}
 use Rattle.block.specs.declared.Status.the-variants.{Ready, Waiting, Exited}
 use Rattle.block.specs.declared.Warp.{Warp}
 use Rattle.block.specs.declared.Barrier.{Barrier}
 use Rattle.block.specs.declared.Block.{Block}
 use Rattle.block_laws.specs.Sound.{Shaped}
-use Rattle.block_laws.proofs.General.{untrue, getD-firsts, firsts-either}
+use Rattle.folds.proofs.General.{untrue, getD-firsts, firsts-either}
 use Rattle.block_laws.proofs.Facts.{Row, Missing, SoundBut, SoundAt, sound-of}
 
 -- ---- who has not exited

@@ -15,8 +15,8 @@ use Rattle.sets.specs.Sets.{has, less}
 use Rattle.sets.proofs.Sets.{has-less, less-lt, setOf-lt, ext}
 use Rattle.block.specs.Tables.{mostWarps, barrierCount, freshWarp, idle, warpAt, barrierAt, isExited, liveOf, soundBlock}
 use Rattle.barrier_row.specs.Rows.{arrivedRow, resultOf}
-use Rattle.barriers.proofs.Changes.{live-other, live-own}
-use Rattle.barriers.specs.Steps.{releasedWarp, freedBy, completed, goesOn, arrival, without, opens, opened, exit}
+use Rattle.block_steps.proofs.Changes.{live-other, live-own}
+use Rattle.block_steps.specs.Steps.{releasedWarp, freedBy, completed, goesOn, arrival, without, opens, opened, exit}
 use Rattle.block.specs.declared.Status.the-variants.{Ready, Waiting}
 use Rattle.block.specs.declared.Warp.{Warp}
 use Rattle.block.specs.declared.Barrier.{Barrier}
@@ -24,7 +24,7 @@ use Rattle.block.specs.declared.Block.{Block}
 use Rattle.block.specs.declared.Verdict.the-variants.{Accepted}
 use Rattle.block_laws.specs.Sound.{Shaped}
 use Rattle.block_laws.specs.Changes.{LeavesRefused, RefusedLeave, ExitCompletesOne, Releases, ArrivalReleases, ReleasesSet, ArriveReleases, ExitReleases, ReleasesNone, NoneReleased, GivesResults, ResultsGiven, LeavesRow, RowsLeft, CountedSurvive, LeavesWarp, WarpsLeft, ArrivalKeepsLive, ExitTakesOut}
-use Rattle.block_laws.proofs.General.{first-holds, firsts-leaves, set-either}
+use Rattle.folds.proofs.General.{first-holds, firsts-leaves, set-either}
 use Rattle.block_laws.proofs.Facts.{Free, sound-at, sound-but, free-says}
 use Rattle.block_laws.proofs.Ends.{arrival-ends, exit-ends}
 use Rattle.block_laws.proofs.Arrived.{has-grown}

@@ -8,7 +8,7 @@ use borrow.Author.Tests.{eqb-true, ltb-true, ltb-false}
 use Rattle.folds.specs.Folds.{lowest}
 use Rattle.block.specs.Tables.{barrierCount, barrierAt, liveOf}
 use Rattle.barrier_row.specs.Rows.{arrivedRow, completes}
-use Rattle.barriers.specs.Steps.{exitLines, arrivalLines, completed, goesOn, refused, arrival, without, opened, exit}
+use Rattle.block_steps.specs.Steps.{exitLines, arrivalLines, completed, goesOn, refused, arrival, without, opened, exit}
 use Rattle.block.specs.declared.Barrier.{Barrier}
 use Rattle.block.specs.declared.Block.{Block}
 use Rattle.block.specs.declared.Call.{Call}

@@ -15,13 +15,13 @@ use Rattle.folds.proofs.Folds.{every-at}
 use Rattle.sets.specs.Sets.{has, part}
 use Rattle.sets.proofs.Sets.{has-none, has-setOf, ext, part-has}
 use Rattle.block.specs.Tables.{mostWarps, barrierCount, freshWarp, warpAt, barrierAt, isIdle, isReady, isExited, waitsAt, liveOf, warpSound, soundBlock}
-use Rattle.barriers.specs.Steps.{completed, without, opens, opened}
+use Rattle.block_steps.specs.Steps.{completed, without, opens, opened}
 use Rattle.block.specs.declared.Status.{Status}
 use Rattle.block.specs.declared.Status.the-variants.{Ready, Waiting, Exited}
 use Rattle.block.specs.declared.Warp.{Warp}
 use Rattle.block.specs.declared.Block.{Block}
 use Rattle.block_laws.specs.Sound.{Shaped}
-use Rattle.block_laws.proofs.General.{by-test, untrue, first-holds, first-passes}
+use Rattle.folds.proofs.General.{by-test, untrue, first-holds, first-passes}
 use Rattle.block_laws.proofs.Facts.{SoundBut, SoundAt, sound-but, sound-at, sound-of, Free}
 use Rattle.block_laws.proofs.Changed.{completed-keeps}
 

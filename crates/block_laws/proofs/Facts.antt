@@ -12,13 +12,13 @@ use Rattle.folds.proofs.Folds.{every-at, all-at, all-of, none-at, alike, alike-
 use Rattle.sets.specs.Sets.{has, part, within, size}
 use Rattle.block.specs.Tables.{mostWarps, laneCount, barrierCount, warpAt, barrierAt, liveOf, isIdle, isPlain, isReduction, isReady, waitsAt, setsInside, idleZero, activeArrived, activeCount, countOpen, allOpen, reductionWaits, plainNone, warpSound, rowSound, rowsSound, agreeing, soundBlock}
 use Rattle.barrier_row.specs.Rows.{badThreads, clashes}
-use Rattle.barriers.specs.Steps.{exitLines, arrivalLines}
+use Rattle.block_steps.specs.Steps.{exitLines, arrivalLines}
 use Rattle.block.specs.declared.Status.{Status}
 use Rattle.block.specs.declared.Status.the-variants.{Ready, Waiting, Exited}
 use Rattle.block.specs.declared.Barrier.{Barrier}
 use Rattle.block.specs.declared.Block.{Block}
 use Rattle.block.specs.declared.Call.{Call}
-use Rattle.block_laws.proofs.General.{then, implied, both, each, not-of, not-is}
+use Rattle.folds.proofs.General.{then, implied, both, each, not-of, not-is}
 
 -- ---- a barrier row
 

@@ -1,4 +1,3 @@
-pub mod General
 pub mod Facts
 pub mod Ends
 pub mod Arrived

@@ -8,13 +8,14 @@ use lib.Dec.{eqb, ltb}
 use lib.ListN.{set, length-set, length-replicate, getD-replicate}
 use Rattle.sets.proofs.Sets.{has-none, size-le}
 use Rattle.block.specs.Tables.{mostWarps, barrierCount, freshWarp, idle, warpAt, barrierAt, isPlain, soundBlock, freshBlock}
-use Rattle.calls.specs.Calls.{formOf}
+use Rattle.barrier_calls.specs.Calls.{formOf}
 use Rattle.block.specs.declared.Form.the-variants.{Idle, Popc, And, Or}
 use Rattle.block.specs.declared.Warp.{Warp}
 use Rattle.block.specs.declared.Barrier.{Barrier}
 use Rattle.block.specs.declared.Block.{Block}
 use Rattle.block_laws.specs.Sound.{Shaped, ShapeKept, CallsAsk, FreshSound, ArrivalKeepsSound, ExitKeepsSound, TruesBounded, SumsFit}
-use Rattle.block_laws.proofs.General.{both, length-firsts}
+use Rattle.folds.proofs.Folds.{length-firsts}
+use Rattle.folds.proofs.General.{both}
 use Rattle.block_laws.proofs.Facts.{SoundBut, sound-at, sound-of}
 use Rattle.block_laws.proofs.Ends.{arrival-ends, exit-ends}
 use Rattle.block_laws.proofs.Arrived.{trues-le, sum-fits}

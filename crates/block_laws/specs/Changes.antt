@@ -7,7 +7,7 @@ use lib.Dec.{eqb}
 use Rattle.folds.specs.Folds.{lowest}
 use Rattle.sets.specs.Sets.{has, less}
 use Rattle.block.specs.Tables.{mostWarps, barrierCount, warpAt, barrierAt, isReduction, liveOf, soundBlock}
-use Rattle.barriers.specs.Steps.{exitLines, arrival, without, opens, opened, exit}
+use Rattle.block_steps.specs.Steps.{exitLines, arrival, without, opens, opened, exit}
 use Rattle.block.specs.declared.Status.the-variants.{Ready}
 use Rattle.block.specs.declared.Form.{Form}
 use Rattle.block.specs.declared.Block.{Block}

@@ -6,8 +6,8 @@ use Prim.Native.Nat.{ℕ, _+_, _*_, _<_, _≤_}
 use lib.ListN.{length}
 use Rattle.block.specs.Tables.{mostWarps, laneCount, barrierCount, barrierAt, isPlain, isReduction, soundBlock, freshBlock}
 use Rattle.barrier_row.specs.Rows.{upToLargest}
-use Rattle.barriers.specs.Steps.{arrival, exit}
-use Rattle.calls.specs.Calls.{syncCall, arriveCall, redCall}
+use Rattle.block_steps.specs.Steps.{arrival, exit}
+use Rattle.barrier_calls.specs.Calls.{syncCall, arriveCall, redCall}
 use Rattle.block.specs.declared.Block.{Block}
 use Rattle.block.specs.declared.Threads.{Threads}
 use Rattle.block.specs.declared.Threads.the-variants.{All}

@@ -2,3 +2,4 @@ pub mod Folds
 pub mod Table
 pub mod Cases
 pub mod Lowest
+pub mod General

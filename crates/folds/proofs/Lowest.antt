@@ -61,10 +61,10 @@ unfolding lowest
 none-line k true n rs h f e m = let a : k < n = first-above k true n rs h in absurd (omega arith)
 none-line k false n rs h f e m = passed n rs m ∙ f e m
 
-none-given : (k : ℕ) (ls : List Line) → ascending k ls ≡ true → lowest ls ≡ 0 → None ls
+none-above : (k : ℕ) (ls : List Line) → ascending k ls ≡ true → lowest ls ≡ 0 → None ls
 unfolding holds
-none-given k [] h e = λ n. refl
-none-given k (r ∷ rs) h e = none-line k (r .0) (r .1) rs h (none-given (r .1) rs (rest-above k (r .0) (r .1) rs h)) e
+none-above k [] h e = λ n. refl
+none-above k (r ∷ rs) h e = none-line k (r .0) (r .1) rs h (none-above (r .1) rs (rest-above k (r .0) (r .1) rs h)) e
 
 -- two lowest numbers are the same
 same-lowest : (ls : List Line) (m n : ℕ) → Lowest ls m → Lowest ls n → m ≡ n
@@ -76,12 +76,12 @@ same-lowest ls m n v w = le-antisymm (not-above n m w v) (not-above m n v w)
 pub lowest-given : LowestGiven
 lowest-given ls h n p = (
   λ e. rw e at (given 0 ls h (rw e p)),
-  λ w. ⊎-elim (λ z. never (w .here) (none-given 0 ls h (sym z) n)) (λ q. same-lowest ls (lowest ls) n (given 0 ls h q) w) (eq-or-lt-of-le (zero-le {n = lowest ls})),
+  λ w. ⊎-elim (λ z. never (w .here) (none-above 0 ls h (sym z) n)) (λ q. same-lowest ls (lowest ls) n (given 0 ls h q) w) (eq-or-lt-of-le (zero-le {n = lowest ls})),
 )
 
-pub none-holds : NoneGiven
-none-holds ls h = (
-  none-given 0 ls h,
+pub none-given : NoneGiven
+none-given ls h = (
+  none-above 0 ls h,
   λ f. ⊎-elim (λ z. sym z) (λ q. never (given 0 ls h q .here) (f (lowest ls))) (eq-or-lt-of-le (zero-le {n = lowest ls})),
 )
 

@@ -1,15 +1,15 @@
 // The block changed where it lies: whoever lends it has it changed without a copy.
-use barriers::Change;
-use barriers::Freed;
 use block::Block;
 use block::MOST_WARPS;
 use block::Status;
 use block::Warp;
+use block_steps::Change;
+use block_steps::Freed;
 ghost use mathlib.Core.Path.{_≡_};
 ghost use mathlib.Core.Bool.{cond};
 ghost use lib.Dec.{ltb};
-ghost use Rattle.barriers.specs.Steps.{releasedWarp, releasedWarps};
-ghost use Rattle.barriers.specs.Changes.{changed};
+ghost use Rattle.block_steps.specs.Steps.{releasedWarp, releasedWarps};
+ghost use Rattle.block_steps.specs.Changes.{changed};
 
 // The row at i after a release; rows past the last warp stay.
 fn released_at(f: Freed, i: usize, row: Warp) -> Warp
@@ -52,7 +52,7 @@ fn release(rows: &mut [Warp], f: Freed)
 pub fn change(b: &mut Block, c: Change)
     ensures { λ _. ⌜ now (b .exit) ≡ changed (now (b .entry)) c ⌝ }
 {
-    block_rows::put_barrier(&mut b.barriers, c.barrier, c.row);
-    block_rows::put_status(&mut b.rows, c.warp, c.status);
+    lent_rows::put_barrier(&mut b.barriers, c.barrier, c.row);
+    lent_rows::put_status(&mut b.rows, c.warp, c.status);
     release(&mut b.rows, c.freed);
 }

@@ -11,12 +11,12 @@ use Rattle.object.specs.Row.{dead}
 use Rattle.block.specs.declared.Block.{Block}
 use Rattle.block.specs.declared.Verdict.{Verdict}
 use Rattle.block.specs.Tables.{liveOf}
-use Rattle.barriers.specs.Changes.{changed}
+use Rattle.block_steps.specs.Changes.{changed}
 use Rattle.tables.specs.declared.Tally.{Tally}
 use Rattle.tables.specs.Tables.{Tables, soundTables, slotOf, seenOf, tallied}
 use Rattle.tables.specs.Effect.{State, liveAfter}
-use Rattle.decisions.specs.declared.Decided.{Decided}
-use Rattle.decisions.specs.Decides.{decidedOn}
+use Rattle.step_decides.specs.declared.Decided.{Decided}
+use Rattle.step_decides.specs.Decides.{decidedOn}
 use Rattle.lent_run.specs.declared.Checked.{Checked}
 use Rattle.lent_run.specs.declared.Gone.{Gone}
 

@@ -83,7 +83,7 @@ fn answer(c: Checked, s: Step, v: Verdict) -> Gone
     ensures { λ r. ⌜ r ≡ record { verdict = v; checked = checkedAfter c s v } ⌝ }
 {
     let op = s.op;
-    if !(decisions::is_exit(op) & is_accepted(v)) {
+    if !(step_decides::is_exit(op) & is_accepted(v)) {
         return Gone {
             verdict: v,
             checked: c,
@@ -105,7 +105,7 @@ pub fn go_on(b: &mut Block, objects: &mut [Object], tally: &mut Tally, c: Checke
     let at = lent::slot(s);
     let row = object_list::row_at(objects, at);
     let seen = lent_seen::see(&mut *b, c.sound, c.live, s);
-    let d = decisions::decide(seen, row, s);
+    let d = step_decides::decide(seen, row, s);
     object_list::put_row(objects, at, d.object);
     tally::count(tally, d.verdict);
     lent_change::change(b, d.change);

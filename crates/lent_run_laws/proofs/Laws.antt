@@ -12,8 +12,8 @@ use Rattle.object.specs.Row.{dead}
 use Rattle.block.specs.declared.Block.{Block}
 use Rattle.block.specs.declared.Verdict.{Verdict}
 use Rattle.block.specs.Tables.{liveOf}
-use Rattle.barriers.specs.Changes.{changed}
-use Rattle.barriers.proofs.Changes.{unchanged}
+use Rattle.block_steps.specs.Changes.{changed}
+use Rattle.block_steps.proofs.Changes.{unchanged}
 use Rattle.block_laws.specs.Sound.{Shaped}
 use Rattle.tables.specs.declared.Taken.{Taken}
 use Rattle.tables.specs.Tables.{Tables, soundTables, viewOf, slotOf, seenOf, isAccepted, tallied}
@@ -22,9 +22,9 @@ use Rattle.tables.specs.Laws.{Sound}
 use Rattle.tables.proofs.Chains.{taken-unsound}
 use Rattle.tables.proofs.Laws.{refused-leaves-all}
 use Rattle.tables.proofs.Kept.{keeps-sound, live-followed}
-use Rattle.decisions.specs.declared.Decided.{Decided}
-use Rattle.decisions.specs.Decides.{refusing, decidedOn, leftOf}
-use Rattle.decisions.proofs.Decides.{decided-unsound, decision-seen}
+use Rattle.step_decides.specs.declared.Decided.{Decided}
+use Rattle.step_decides.specs.Decides.{refusing, decidedOn, leftOf}
+use Rattle.step_decides.proofs.Decides.{decided-unsound, decision-seen}
 use Rattle.lent.specs.Entries.{tablesOf}
 use Rattle.lent_run.specs.declared.Checked.{Checked}
 use Rattle.lent_run.specs.Run.{checkedAfter, decidedWith, onward}

@@ -12,11 +12,11 @@ fn barrier_for(b: &mut Block, live: u32, s: Step) -> u8
     ensures { λ r. ⌜ (r ≡ barrierFor live (now (b .entry)) (s .warp) (s .op)) × (now (b .exit) ≡ now (b .entry)) ⌝ }
 {
     let op = s.op;
-    if !decisions::is_exit(op) {
-        return decisions::named_barrier(op);
+    if !step_decides::is_exit(op) {
+        return step_decides::named_barrier(op);
     }
     let barriers = b.barriers;
-    exits::opened(barriers, live, s.warp)
+    block_exit::opened(barriers, live, s.warp)
 }
 
 // What is seen, put together.
@@ -39,7 +39,7 @@ pub fn see(b: &mut Block, sound: bool, live: u32, s: Step) -> Seen
 {
     let warps = b.warps;
     let at = barrier_for(&mut *b, live, s);
-    let warp = block_rows::warp_at(&b.rows, s.warp as usize);
-    let barrier = block_rows::barrier_at(&b.barriers, at as usize);
+    let warp = lent_rows::warp_at(&b.rows, s.warp as usize);
+    let barrier = lent_rows::barrier_at(&b.barriers, at as usize);
     together(sound, warps, live, warp, at, barrier)
 }

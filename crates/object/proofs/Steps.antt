@@ -19,7 +19,7 @@ use Rattle.object.specs.Tokens.{slotIn, tooLarge}
 use Rattle.object.specs.Row.{isZero, bothZero, acted, mayEnd, ends, nextPhase, rowAfter, valueOf, badArrival, farPhase, lines, refusal, unless, stepRow}
 use Rattle.object.specs.Steps.{RefusedExactly, AcceptedExactly, Completed, CompletesSo, CompletesExactly, ExpectCompletesNone, OwnToken, Arrived, ArrivesSo}
 use Rattle.object.proofs.Row.{or-left, or-right, count-within, count-below}
-use Rattle.folds.proofs.Lowest.{lowest-given, none-holds}
+use Rattle.folds.proofs.Lowest.{lowest-given, none-given}
 
 -- ---- an answer and its refusal number
 
@@ -67,8 +67,8 @@ refused-exactly o slot a n = (
 pub accepted-exactly : AcceptedExactly
 unfolding stepRow
 accepted-exactly o slot a = (
-  λ e. none-holds (lines o slot a) (goes-up o slot a) .0 (accepted-as o slot a _ _ _ e .0),
-  λ f. ap (λ (n : ℕ). unless n (Accepted (rowAfter o a) (valueOf o slot a) (ends o a))) (none-holds (lines o slot a) (goes-up o slot a) .1 f),
+  λ e. none-given (lines o slot a) (goes-up o slot a) .0 (accepted-as o slot a _ _ _ e .0),
+  λ f. ap (λ (n : ℕ). unless n (Accepted (rowAfter o a) (valueOf o slot a) (ends o a))) (none-given (lines o slot a) (goes-up o slot a) .1 f),
 )
 
 -- ---- a completed phase

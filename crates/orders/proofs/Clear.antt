@@ -10,7 +10,7 @@ abbrev pub Clear : List Line → Type 0
 Clear [] = Unit {0}
 Clear (r ∷ rs) = (r .0 ≡ false) × Clear rs
 
-pub none-holds : (rs : List Line) → Clear rs → lowest rs ≡ 0
+pub clear-none : (rs : List Line) → Clear rs → lowest rs ≡ 0
 unfolding lowest
-none-holds [] c = refl
-none-holds (r ∷ rs) c = rw (c .0) (none-holds rs (c .1))
+clear-none [] c = refl
+clear-none (r ∷ rs) c = rw (c .0) (clear-none rs (c .1))

@@ -25,7 +25,7 @@ use Rattle.tables.specs.Refusals.{lines, refusal, actOf}
 use Rattle.tables.specs.Effect.{effect, taken, verdict, after}
 use Rattle.orders.specs.Due.{objectAt, ready}
 use Rattle.orders.specs.Finishes.{withRow, stepOn}
-use Rattle.orders.proofs.Clear.{Clear, none-holds}
+use Rattle.orders.proofs.Clear.{Clear, clear-none}
 
 -- ---- the tables with another row
 
@@ -102,7 +102,7 @@ module _ (t : Tables) (sound : soundTables t ≡ true) (a : ℕ) (good : Address
     accepted : refusal (viewOf t (stepOn w a o)) (stepOn w a o) ≡ 0
     unfolding refusal
     accepted =
-        none-holds (lines (viewOf t (stepOn w a o)) (stepOn w a o))
+        clear-none (lines (viewOf t (stepOn w a o)) (stepOn w a o))
         (ap not sound & there (t .block) w h & is-ready (t .block) w h & refl & refl & refl & refl & refl & good-address a good & c)
 
     takes-effect : taken (viewOf t (stepOn w a o)) (stepOn w a o) ≡ effect (viewOf t (stepOn w a o)) w (stepOn w a o .op)

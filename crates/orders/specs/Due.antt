@@ -17,7 +17,7 @@ use Rattle.object.specs.declared.Act.the-variants.{Init, Inval, Arrive, Expect,
 use Rattle.object.specs.Row.{dead, most, lastPhase}
 use Rattle.block.specs.declared.Block.{Block}
 use Rattle.block.specs.Tables.{warpAt, isReady}
-use Rattle.tables.specs.Tables.{Tables, soundTables}
+use Rattle.tables.specs.Tables.{Tables, lastAddress, soundTables}
 use Rattle.tables.specs.Refusals.{ofObject, actOf}
 
 -- the row of the object at an address
@@ -129,7 +129,7 @@ pub record Due (t : Tables) (a : ℕ) (l : List Step) : Type 0 where
   -- "take a[n] .. object": its address is a multiple of 8
   pub multiple : a % 8 ≡ 0
   -- and at most 504
-  pub within : a ≤ 504
+  pub within : a ≤ lastAddress
   -- "live"
   pub live : objectAt t a .live ≡ true
   -- "with arrivals pending"

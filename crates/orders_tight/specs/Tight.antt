@@ -16,7 +16,7 @@ use Rattle.object.specs.Row.{most, lastPhase}
 use Rattle.block.specs.declared.Verdict.{Verdict}
 use Rattle.block.specs.declared.Verdict.the-variants.{Refused, Accepted}
 use Rattle.block.specs.Tables.{freshBlock}
-use Rattle.barriers.specs.Steps.{without}
+use Rattle.block_steps.specs.Steps.{without}
 use Rattle.tables.specs.declared.Tally.{Tally}
 use Rattle.tables.specs.Tables.{Tables, soundTables, freshTables}
 use Rattle.tables.specs.Effect.{State}

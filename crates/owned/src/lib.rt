@@ -62,11 +62,11 @@ pub fn step_owned(o: Owned, s: Step) -> OwnedTurn
 pub fn fresh_owned(warps: u8) -> OwnedTurn
     ensures { λ r. ⌜ r ≡ ownedFresh warps ⌝ }
 {
-    let n = fresh_tables::fresh_refusal(SLOTS, warps);
+    let n = lent_fresh::fresh_refusal(SLOTS, warps);
     let row = object::dead();
     let objects = [row; SLOTS];
-    let tally = fresh_tables::fresh_tally();
-    let t = fresh_tables::fresh_turn(n, warps);
+    let tally = lent_fresh::fresh_tally();
+    let t = lent_fresh::fresh_turn(n, warps);
     let verdict = t.verdict;
     let block = t.block;
     bundle(verdict, block, objects, tally)

@@ -9,8 +9,8 @@ use mir.Syntax.{w32, w64}
 use mir.Val.{SFits, ofZ, toZ}
 use mir.Facts.{toZ-ofZ, sfits-widen}
 use lib.ListN.{length, length-append}
-use Rattle.printed.specs.Text.{mostBytes}
-use Rattle.printed.proofs.Text.{text-long}
+use Rattle.trace_text.specs.Text.{mostBytes}
+use Rattle.trace_text.proofs.Text.{text-long}
 use Rattle.reading.specs.declared.Read.{Read}
 use Rattle.reading.specs.declared.Failure.{Failure}
 use Rattle.reading.specs.declared.Filled.{Filled}

@@ -8,7 +8,7 @@ use lib.IntN.{pos}
 use lib.Signed.{ltZ}
 use lib.ListN.{length, take}
 use Rattle.io.specs.Counts.{Counts}
-use Rattle.printed.specs.Text.{textOf}
+use Rattle.trace_text.specs.Text.{textOf}
 use Rattle.reading.specs.declared.Read.{Read}
 use Rattle.reading.specs.declared.Failure.{Failure}
 use Rattle.reading.specs.declared.Filled.{Filled}

@@ -20,8 +20,8 @@ use Rattle.object.specs.declared.Answer.the-variants as answer
 use Rattle.object.specs.Row as row
 use Rattle.block.specs.declared.Verdict.the-variants.{Accepted}
 use Rattle.block.specs.Tables.{isIdle}
-use Rattle.barriers.specs.Steps as barriers
-use Rattle.calls.proofs.Calls.{selector-form}
+use Rattle.block_steps.specs.Steps as barriers
+use Rattle.barrier_calls.proofs.Calls.{selector-form}
 use Rattle.tables.specs.declared.Seen.{Seen}
 use Rattle.tables.specs.declared.Taken.{Taken}
 use Rattle.tables.specs.Tables.{objectSize, lastAddress, View, seenBy}

@@ -27,9 +27,9 @@ use Rattle.block.specs.declared.Turn.{Turn}
 use Rattle.block.specs.declared.Verdict.the-variants.{Accepted}
 use Rattle.block.specs.Tables.{barrierCount, idle, barrierAt, liveOf, isIdle, soundBlock}
 use Rattle.barrier_row.specs.Rows as rows
-use Rattle.barriers.specs.Steps as barriers
+use Rattle.block_steps.specs.Steps as barriers
 use Rattle.block_laws.specs.Sound.{Shaped}
-use Rattle.block_laws.proofs.General.{first-holds}
+use Rattle.folds.proofs.General.{first-holds}
 use Rattle.tables.specs.declared.Taken.{Taken}
 use Rattle.tables.specs.Tables.{Tables, viewOf, soundObjects, soundTables, isAccepted, doneOf}
 use Rattle.tables.specs.Refusals.{callOf, actOf}

@@ -30,7 +30,7 @@ use Rattle.block.specs.declared.Threads.the-variants.{All, Given}
 use Rattle.block.specs.declared.Verdict.{Verdict}
 use Rattle.block.specs.declared.Verdict.the-variants.{Refused, Accepted}
 use Rattle.block.specs.Tables.{barrierAt, liveOf, soundBlock}
-use Rattle.barriers.specs.Steps as barriers
+use Rattle.block_steps.specs.Steps as barriers
 use Rattle.block_laws.specs.Sound.{Shaped, Asks}
 use Rattle.block_laws.proofs.Sound as sound
 use Rattle.block_laws.proofs.Changes as changes

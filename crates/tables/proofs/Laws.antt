@@ -10,7 +10,7 @@ use lib.ListN.{getD, set}
 use lib.Seq.{set-getD, getD-set-other}
 use Rattle.folds.specs.Lowest.{ascending, holds, Lowest, None}
 use Rattle.folds.proofs.Folds.{none-at}
-use Rattle.folds.proofs.Lowest.{lowest-given, none-holds}
+use Rattle.folds.proofs.Lowest.{lowest-given, none-given}
 use Rattle.steps.specs.declared.Op.{Op}
 use Rattle.steps.specs.declared.Op.the-variants.{Exit, Barrier, Object, PendingCount}
 use Rattle.steps.specs.declared.Step.{Step}
@@ -20,7 +20,7 @@ use Rattle.block.specs.declared.Verdict.{Verdict}
 use Rattle.block.specs.declared.Verdict.the-variants.{Refused, Accepted}
 use Rattle.block.specs.Tables.{liveOf, barrierAt}
 use Rattle.barrier_row.specs.Rows as rows
-use Rattle.barriers.specs.Steps as barriers
+use Rattle.block_steps.specs.Steps as barriers
 use Rattle.tables.specs.declared.Taken.{Taken}
 use Rattle.tables.specs.Tables.{View, viewOf, slotOf, numberOf, isAccepted, valueOf, doneOf, releasedOf}
 use Rattle.tables.specs.Refusals.{callOf, lines, refusal}
@@ -131,12 +131,12 @@ module _ (v : View) (s : Step) where
   unfolding refusal
   none-accepted f =
       ap (λ (x : Taken). isAccepted (x .verdict))
-      (by-number ∙ ap (choice v (effect v (s .warp) (s .op))) (none-holds (lines v s) goes-up .1 f) ∙ choice-zero v (effect v (s .warp) (s .op)))
+      (by-number ∙ ap (choice v (effect v (s .warp) (s .op))) (none-given (lines v s) goes-up .1 f) ∙ choice-zero v (effect v (s .warp) (s .op)))
       ∙ effect-accepted v (s .warp) (s .op)
 
   accepted-none : isAccepted (taken v s .verdict) ≡ true → None (lines v s)
   unfolding refusal
-  accepted-none e = none-holds (lines v s) goes-up .0 (free e)
+  accepted-none e = none-given (lines v s) goes-up .0 (free e)
 
 -- an accepted verdict has no number
 no-number : (v : Verdict) → isAccepted v ≡ true → numberOf v ≡ 0

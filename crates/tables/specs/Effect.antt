@@ -15,7 +15,7 @@ use Rattle.object.specs.Row as row
 use Rattle.block.specs.declared.Verdict.{Verdict}
 use Rattle.block.specs.declared.Verdict.the-variants.{Refused, Accepted}
 use Rattle.block.specs.declared.Turn.{Turn}
-use Rattle.barriers.specs.Steps as barriers
+use Rattle.block_steps.specs.Steps as barriers
 use Rattle.tables.specs.declared.Taken.{Taken}
 use Rattle.tables.specs.declared.Tally.{Tally}
 use Rattle.tables.specs.Tables.{Tables, View, viewOf, slotOf, isExit, isAccepted, tallied}

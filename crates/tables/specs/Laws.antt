@@ -14,7 +14,7 @@ use Rattle.object.specs.Row.{dead}
 use Rattle.block.specs.declared.Verdict.the-variants.{Refused}
 use Rattle.block.specs.declared.Block.{Block}
 use Rattle.block.specs.Tables.{barrierCount, barrierAt, isIdle, liveOf}
-use Rattle.barriers.specs.Steps.{without, opened}
+use Rattle.block_steps.specs.Steps.{without, opened}
 use Rattle.block_laws.specs.Sound.{Shaped}
 use Rattle.tables.specs.Tables.{Tables, soundTables, viewOf, slotOf, numberOf, isAccepted, valueOf, doneOf, releasedOf}
 use Rattle.tables.specs.Refusals.{lines, refusal}

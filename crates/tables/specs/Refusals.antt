@@ -21,8 +21,8 @@ use Rattle.object.specs.Row as row
 use Rattle.block.specs.declared.Threads.the-variants.{All, Given}
 use Rattle.block.specs.declared.Call.{Call}
 use Rattle.barrier_row.specs.Rows.{badThreads, clashes}
-use Rattle.barriers.specs.Steps.{noSuchWarp, notReady, noSuchBarrier, alreadyArrived}
-use Rattle.calls.specs.Calls as calls
+use Rattle.block_steps.specs.Steps.{noSuchWarp, notReady, noSuchBarrier, alreadyArrived}
+use Rattle.barrier_calls.specs.Calls as calls
 use Rattle.tables.specs.declared.Seen.{Seen}
 use Rattle.tables.specs.Tables.{objectSize, lastAddress, View, seenBy, slotOf}
 

@@ -18,7 +18,7 @@ use Rattle.block.specs.declared.Verdict.{Verdict}
 use Rattle.block.specs.declared.Verdict.the-variants.{Refused, Accepted}
 use Rattle.block.specs.Tables.{barrierCount, warpAt, barrierAt, liveOf, soundBlock, freshBlock}
 use Rattle.barrier_row.specs.Rows.{largest}
-use Rattle.barriers.specs.Changes.{firstOpening}
+use Rattle.block_steps.specs.Changes.{firstOpening}
 use Rattle.tables.specs.declared.Seen.{Seen}
 use Rattle.tables.specs.declared.Tally.{Tally}
 

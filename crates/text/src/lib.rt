@@ -1,11 +1,11 @@
 // The text of a whole trace, laid into a buffer that the caller lends.
 use lines::MOST_LINE;
-use looking::MOST_BYTES;
+use trace_look::MOST_BYTES;
 ghost use mathlib.Core.Path.{_≡_};
 ghost use lib.Dec.{leb};
 ghost use lib.ListN.{length};
 ghost use Rattle.fields.specs.Num.{laid};
-ghost use Rattle.printed.specs.Text.{textOf, roomFor};
+ghost use Rattle.trace_text.specs.Text.{textOf, roomFor};
 ghost use Rattle.text.specs.Buffer.{answerOf};
 
 // The length of the text that was laid; or that the buffer is too short.
@@ -29,7 +29,7 @@ pub fn needed(trace: &[u8]) -> usize
     ensures { λ r. ⌜ r ≡ length (textOf (now (trace .entry))) ⌝ }
 {
     let mut none = [0u8; 0];
-    laying::lay_text(trace, &mut none)
+    text_turns::lay_text(trace, &mut none)
 }
 
 // Whether the text of a trace has at most so many bytes; it is counted only where the room for any such trace is more.
@@ -49,5 +49,5 @@ pub fn lay(trace: &[u8], out: &mut [u8]) -> Laid
     if !fits(trace, out.len()) {
         return Laid::Short;
     }
-    Laid::Length(laying::lay_text(trace, &mut *out))
+    Laid::Length(text_turns::lay_text(trace, &mut *out))
 }

@@ -8,9 +8,9 @@ use borrow.Author.Tests.{le-leb}
 use lib.ListN.{length, take, drop, length-append}
 use lib.Seq.{length-take-le, take-append-seam, take-at, drop-at}
 use Rattle.text.specs.declared.Laid.the-variants.{Length, Short}
-use Rattle.printed.specs.Text.{mostBytes, roomFor, textOf}
+use Rattle.trace_text.specs.Text.{mostBytes, roomFor, textOf}
 use Rattle.text.specs.Buffer.{answerOf}
-use Rattle.printed.proofs.Laws.{room-is-enough}
+use Rattle.trace_text.proofs.Laws.{room-is-enough}
 use Rattle.whole_text.specs.Whole.{LaysWhole}
 
 -- as many bytes as were taken are the bytes that were taken

@@ -5,7 +5,7 @@ use mathlib.Core.List.{List}
 use Prim.Native.Nat.{ℕ}
 use lib.ListN.{length, take, drop}
 use Rattle.io.specs.Counts.{Counts}
-use Rattle.printed.specs.Text.{textOf}
+use Rattle.trace_text.specs.Text.{textOf}
 
 -- a buffer starts with the text of a trace
 abbrev pub Holds : List ℕ → List ℕ → Type 0

@@ -52,24 +52,24 @@ use Rattle.block.proofs.Barrier as R
 use Rattle.block.proofs.Barrier.Laws as R′
 use Rattle.block.proofs.Block as B
 use Rattle.block.proofs.Block.Laws as B′
-use Rattle.barriers.specs.declared.Change.{Change}
-use Rattle.barriers.specs.Steps.{releasedWarps}
-use Rattle.barriers.specs.Changes.{withStatus}
-use Rattle.barriers.proofs.Freed as F
-use Rattle.barriers.proofs.Freed.Laws as F′
-use Rattle.barriers.proofs.Change as N
-use Rattle.barriers.proofs.Change.Laws as N′
+use Rattle.block_steps.specs.declared.Change.{Change}
+use Rattle.block_steps.specs.Steps.{releasedWarps}
+use Rattle.block_steps.specs.Changes.{withStatus}
+use Rattle.block_steps.proofs.Freed as F
+use Rattle.block_steps.proofs.Freed.Laws as F′
+use Rattle.block_steps.proofs.Change as N
+use Rattle.block_steps.proofs.Change.Laws as N′
 use Rattle.walks.proofs.Walk.{gone1, concluded, over}
 use Rattle.walks.proofs.Lend.{calls-lending}
 use Rattle.lent_change.proofs.Field.{array-lent, array-lent-back, Barriers, Rows, barriers-kept, barriers-out, barriers-in, rows-kept, rows-out, rows-in}
-use Rattle.block_rows.proofs.put_barrier as put-barrier
-use Rattle.block_rows.proofs.put_barrier.Symbol as put-barrier-def
-use Rattle.block_rows.proofs.put_barrier.Symbol.{name as #block-rows·put-barrier}
-use Rattle.block_rows.proofs.put_barrier.Met as put-barrier-thm
-use Rattle.block_rows.proofs.put_status as put-status
-use Rattle.block_rows.proofs.put_status.Symbol as put-status-def
-use Rattle.block_rows.proofs.put_status.Symbol.{name as #block-rows·put-status}
-use Rattle.block_rows.proofs.put_status.Met as put-status-thm
+use Rattle.lent_rows.proofs.put_barrier as put-barrier
+use Rattle.lent_rows.proofs.put_barrier.Symbol as put-barrier-def
+use Rattle.lent_rows.proofs.put_barrier.Symbol.{name as #lent-rows·put-barrier}
+use Rattle.lent_rows.proofs.put_barrier.Met as put-barrier-thm
+use Rattle.lent_rows.proofs.put_status as put-status
+use Rattle.lent_rows.proofs.put_status.Symbol as put-status-def
+use Rattle.lent_rows.proofs.put_status.Symbol.{name as #lent-rows·put-status}
+use Rattle.lent_rows.proofs.put_status.Met as put-status-thm
 use Rattle.lent_change.proofs.release as release
 use Rattle.lent_change.proofs.release.Symbol as release-def
 use Rattle.lent_change.proofs.release.Symbol.{name as #lent-change·release}
@@ -94,8 +94,8 @@ module _ {M : Type 1} (𝓤 : URA M) (H : Heap 𝓤) (A : Atoms 𝓤) (at-mem : 
   Release = tripleOf 𝓤 H A release.signature (release.spec 𝓤 H A at-mem run)
 
   pub record Known (C : Calls 𝓤 H) : Type 1 where
-    pub put-barrier : Triple 𝓤 (C #block-rows·put-barrier) PutBarrier
-    pub put-status : Triple 𝓤 (C #block-rows·put-status) PutStatus
+    pub put-barrier : Triple 𝓤 (C #lent-rows·put-barrier) PutBarrier
+    pub put-status : Triple 𝓤 (C #lent-rows·put-status) PutStatus
     pub release : Triple 𝓤 (C #lent-change·release) Release
 
 -- where a block has its arrays, and that there is room for them; said here, so that the walk does not measure them
@@ -216,7 +216,7 @@ change-spec 𝓤 H 𝓜 𝓖 𝓡 =
     concluded 𝓤 H 𝓜 𝓖 𝓡 code.env change.ended stayed (goes-ref 𝓤 H (𝓖 .A) (givenOf 𝓤 H 𝓜 𝓖) 1 0 tt (plain (λ _. B.the-row)), (goes-none 𝓤 H (𝓖 .A) (givenOf 𝓤 H 𝓜 𝓖) 1 (λ _. N.the-row) yes (λ κs x f. refl), tt))
     (change.clauses 𝓤 H (𝓖 .A) (𝓜 .mem) (𝓡 .run)) #lent-change·change code.function (code.unfolded 𝓤 H 𝓜 𝓡)
     (change-walks 𝓤 H (𝓖 .A) (givenOf 𝓤 H 𝓜 𝓖) (𝓜 .mem) (𝓡 .run) (over 𝓤 H 𝓜 𝓖 𝓡 code.env) (record {
-      put-barrier = cited 𝓤 H (PutBarrier 𝓤 H (𝓖 .A) (𝓜 .mem) (𝓡 .run)) 𝓜 𝓡 code.env #block-rows·put-barrier put-barrier-def.routine code.calls-block-rows·put-barrier (put-barrier-thm.met 𝓤 H 𝓜 𝓖 𝓡);
-      put-status = cited 𝓤 H (PutStatus 𝓤 H (𝓖 .A) (𝓜 .mem) (𝓡 .run)) 𝓜 𝓡 code.env #block-rows·put-status put-status-def.routine code.calls-block-rows·put-status (put-status-thm.met 𝓤 H 𝓜 𝓖 𝓡);
+      put-barrier = cited 𝓤 H (PutBarrier 𝓤 H (𝓖 .A) (𝓜 .mem) (𝓡 .run)) 𝓜 𝓡 code.env #lent-rows·put-barrier put-barrier-def.routine code.calls-lent-rows·put-barrier (put-barrier-thm.met 𝓤 H 𝓜 𝓖 𝓡);
+      put-status = cited 𝓤 H (PutStatus 𝓤 H (𝓖 .A) (𝓜 .mem) (𝓡 .run)) 𝓜 𝓡 code.env #lent-rows·put-status put-status-def.routine code.calls-lent-rows·put-status (put-status-thm.met 𝓤 H 𝓜 𝓖 𝓡);
       release = cited 𝓤 H (Release 𝓤 H (𝓖 .A) (𝓜 .mem) (𝓡 .run)) 𝓜 𝓡 code.env #lent-change·release release-def.routine code.calls-lent-change·release (release-thm.met 𝓤 H 𝓜 𝓖 𝓡);
     }))

@@ -44,16 +44,17 @@ use denote.Triple.Table.{cited}
 use denote.Triple.Walked.{says, Stays, stay-slice, stay-none, walkOf, Walks, ends-at, walked, goes-slice, goes-none}
 use denote.Exit.{yes}
 use borrow.Author.Tests.{lt-ltb, le-ltb}
-use Rattle.barriers.specs.declared.Freed.{Freed}
+use Rattle.block_steps.specs.declared.Freed.{Freed}
 use Rattle.block.specs.declared.Warp.{Warp}
 use Rattle.block.specs.Tables.{freshWarp}
-use Rattle.barriers.proofs.Freed as F
-use Rattle.barriers.proofs.Freed.Laws as F′
+use Rattle.block_steps.proofs.Freed as F
+use Rattle.block_steps.proofs.Freed.Laws as F′
 use Rattle.block.proofs.Warp as R
 use Rattle.block.proofs.Warp.Laws as R′
-use Rattle.barriers.specs.Steps.{releasedWarps}
+use Rattle.block_steps.specs.Steps.{releasedWarps}
 use Rattle.walks.proofs.Walk.{calls-exact, forks, gone1, concluded, over}
-use Rattle.lent_change.proofs.Rows.{firsts-none, length-firsts, firsts-next, releasedRow, releasedTo, released-all, none-released}
+use Rattle.folds.proofs.Folds.{firsts-none, length-firsts, firsts-next}
+use Rattle.lent_change.proofs.Rows.{releasedRow, releasedTo, released-all, none-released}
 use Rattle.lent_change.proofs.released_at as released-at
 use Rattle.lent_change.proofs.released_at.Symbol as released-at-def
 use Rattle.lent_change.proofs.released_at.Symbol.{name as #lent-change·released-at}

@@ -1,5 +1,4 @@
-use mathlib.Core.Path.{_∙_, sym}
-use mathlib.Core.Bool.{true, false, _&&_}
+use mathlib.Core.Bool.{_&&_}
 use borrow.Author.Needs.{needs}
 use borrow.Author.Tests.{not-true, not-false}
 use Rattle.lent_run.proofs.found.Statement.{statement}

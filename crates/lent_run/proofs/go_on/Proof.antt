@@ -57,19 +57,19 @@ use Rattle.block.proofs.Block as B
 use Rattle.block.proofs.Block.Laws as B′
 use Rattle.block.proofs.Verdict as E
 use Rattle.block.proofs.Verdict.Laws as E′
-use Rattle.barriers.specs.Changes.{changed}
-use Rattle.barriers.proofs.Change as N
-use Rattle.barriers.proofs.Change.Laws as N′
+use Rattle.block_steps.specs.Changes.{changed}
+use Rattle.block_steps.proofs.Change as N
+use Rattle.block_steps.proofs.Change.Laws as N′
 use Rattle.tables.specs.declared.Tally.{Tally}
 use Rattle.tables.specs.Tables.{slotOf, seenOf, tallied}
 use Rattle.tables.proofs.Tally as T
 use Rattle.tables.specs.declared.Seen.{Seen}
-use Rattle.decisions.specs.declared.Decided.{Decided}
-use Rattle.decisions.specs.Decides.{decidedOn}
+use Rattle.step_decides.specs.declared.Decided.{Decided}
+use Rattle.step_decides.specs.Decides.{decidedOn}
 use Rattle.tables.proofs.Seen as X
 use Rattle.tables.proofs.Seen.Laws as X′
-use Rattle.decisions.proofs.Decided as U
-use Rattle.decisions.proofs.Decided.Laws as U′
+use Rattle.step_decides.proofs.Decided as U
+use Rattle.step_decides.proofs.Decided.Laws as U′
 use Rattle.walks.proofs.Walk.{says-too, calls-saying, calls-exact, gone1, concluded, over}
 use Rattle.walks.proofs.Lend.{Back, part-shut, rows-shared, rows-shared-back, rows-lent, rows-lent-back, record-lent, record-lent-back, calls-lending}
 use Rattle.lent.specs.Entries.{tablesOf as tables-of, stateOf}
@@ -85,10 +85,10 @@ use Rattle.lent_seen.proofs.see as see
 use Rattle.lent_seen.proofs.see.Symbol as see-def
 use Rattle.lent_seen.proofs.see.Symbol.{name as #lent-seen·see}
 use Rattle.lent_seen.proofs.see.Met as see-thm
-use Rattle.decisions.proofs.decide as decide
-use Rattle.decisions.proofs.decide.Symbol as decide-def
-use Rattle.decisions.proofs.decide.Symbol.{name as #decisions·decide}
-use Rattle.decisions.proofs.decide.Met as decide-thm
+use Rattle.step_decides.proofs.decide as decide
+use Rattle.step_decides.proofs.decide.Symbol as decide-def
+use Rattle.step_decides.proofs.decide.Symbol.{name as #step-decides·decide}
+use Rattle.step_decides.proofs.decide.Met as decide-thm
 use Rattle.object_list.proofs.put_row as put-row
 use Rattle.object_list.proofs.put_row.Symbol as put-row-def
 use Rattle.object_list.proofs.put_row.Symbol.{name as #object-list·put-row}
@@ -151,7 +151,7 @@ module _ {M : Type 1} (𝓤 : URA M) (H : Heap 𝓤) (A : Atoms 𝓤) (at-mem : 
     pub slot : Triple 𝓤 (C #lent·slot) Slot
     pub row-at : Triple 𝓤 (C #object-list·row-at) RowAt
     pub see : Triple 𝓤 (C #lent-seen·see) Sees
-    pub decide : Triple 𝓤 (C #decisions·decide) Decide
+    pub decide : Triple 𝓤 (C #step-decides·decide) Decide
     pub put-row : Triple 𝓤 (C #object-list·put-row) PutRow
     pub count : Triple 𝓤 (C #tally·count) Count
     pub change : Triple 𝓤 (C #lent-change·change) Changes
@@ -416,7 +416,7 @@ go-on-spec 𝓤 H 𝓜 𝓖 𝓡 =
       slot = cited 𝓤 H (Slot 𝓤 H (𝓖 .A) (𝓜 .mem) (𝓡 .run)) 𝓜 𝓡 code.env #lent·slot slot-def.routine code.calls-lent·slot (slot-thm.met 𝓤 H 𝓜 𝓖 𝓡);
       row-at = cited 𝓤 H (RowAt 𝓤 H (𝓖 .A) (𝓜 .mem) (𝓡 .run)) 𝓜 𝓡 code.env #object-list·row-at row-at-def.routine code.calls-object-list·row-at (row-at-thm.met 𝓤 H 𝓜 𝓖 𝓡);
       see = cited 𝓤 H (Sees 𝓤 H (𝓖 .A) (𝓜 .mem) (𝓡 .run)) 𝓜 𝓡 code.env #lent-seen·see see-def.routine code.calls-lent-seen·see (see-thm.met 𝓤 H 𝓜 𝓖 𝓡);
-      decide = cited 𝓤 H (Decide 𝓤 H (𝓖 .A) (𝓜 .mem) (𝓡 .run)) 𝓜 𝓡 code.env #decisions·decide decide-def.routine code.calls-decisions·decide (decide-thm.met 𝓤 H 𝓜 𝓖 𝓡);
+      decide = cited 𝓤 H (Decide 𝓤 H (𝓖 .A) (𝓜 .mem) (𝓡 .run)) 𝓜 𝓡 code.env #step-decides·decide decide-def.routine code.calls-step-decides·decide (decide-thm.met 𝓤 H 𝓜 𝓖 𝓡);
       put-row = cited 𝓤 H (PutRow 𝓤 H (𝓖 .A) (𝓜 .mem) (𝓡 .run)) 𝓜 𝓡 code.env #object-list·put-row put-row-def.routine code.calls-object-list·put-row (put-row-thm.met 𝓤 H 𝓜 𝓖 𝓡);
       count = cited 𝓤 H (Count 𝓤 H (𝓖 .A) (𝓜 .mem) (𝓡 .run)) 𝓜 𝓡 code.env #tally·count count-def.routine code.calls-tally·count (count-thm.met 𝓤 H 𝓜 𝓖 𝓡);
       change = cited 𝓤 H (Changes 𝓤 H (𝓖 .A) (𝓜 .mem) (𝓡 .run)) 𝓜 𝓡 code.env #lent-change·change change-def.routine code.calls-lent-change·change (change-thm.met 𝓤 H 𝓜 𝓖 𝓡);

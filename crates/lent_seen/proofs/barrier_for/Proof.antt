@@ -53,23 +53,23 @@ use Rattle.block.proofs.Barrier as R
 use Rattle.block.proofs.Barrier.Laws as R′
 use Rattle.block.proofs.Block as B
 use Rattle.block.proofs.Block.Laws as B′
-use Rattle.barriers.specs.Changes.{firstOpening}
+use Rattle.block_steps.specs.Changes.{firstOpening}
 use Rattle.tables.specs.Tables.{isExit, namedBarrier, barrierFor}
 use Rattle.walks.proofs.Walk.{is-false, calls-exact, forks, gone1, concluded, over}
 use Rattle.walks.proofs.Lend.{part-shut}
 use Rattle.lent_change.proofs.Field.{Barriers, barriers-kept, barriers-out, barriers-in}
-use Rattle.decisions.proofs.is_exit as is-exit
-use Rattle.decisions.proofs.is_exit.Symbol as is-exit-def
-use Rattle.decisions.proofs.is_exit.Symbol.{name as #decisions·is-exit}
-use Rattle.decisions.proofs.is_exit.Met as is-exit-thm
-use Rattle.decisions.proofs.named_barrier as named-barrier
-use Rattle.decisions.proofs.named_barrier.Symbol as named-barrier-def
-use Rattle.decisions.proofs.named_barrier.Symbol.{name as #decisions·named-barrier}
-use Rattle.decisions.proofs.named_barrier.Met as named-barrier-thm
-use Rattle.exits.proofs.opened as opened
-use Rattle.exits.proofs.opened.Symbol as opened-def
-use Rattle.exits.proofs.opened.Symbol.{name as #exits·opened}
-use Rattle.exits.proofs.opened.Met as opened-thm
+use Rattle.step_decides.proofs.is_exit as is-exit
+use Rattle.step_decides.proofs.is_exit.Symbol as is-exit-def
+use Rattle.step_decides.proofs.is_exit.Symbol.{name as #step-decides·is-exit}
+use Rattle.step_decides.proofs.is_exit.Met as is-exit-thm
+use Rattle.step_decides.proofs.named_barrier as named-barrier
+use Rattle.step_decides.proofs.named_barrier.Symbol as named-barrier-def
+use Rattle.step_decides.proofs.named_barrier.Symbol.{name as #step-decides·named-barrier}
+use Rattle.step_decides.proofs.named_barrier.Met as named-barrier-thm
+use Rattle.block_exit.proofs.opened as opened
+use Rattle.block_exit.proofs.opened.Symbol as opened-def
+use Rattle.block_exit.proofs.opened.Symbol.{name as #block-exit·opened}
+use Rattle.block_exit.proofs.opened.Met as opened-thm
 use Rattle.lent_seen.proofs.barrier_for.Key.{name as #lent-seen·barrier-for}
 use Rattle.lent_seen.proofs.barrier_for as barrier-for
 use Rattle.lent_seen.proofs.barrier_for.Statement as stated
@@ -90,9 +90,9 @@ module _ {M : Type 1} (𝓤 : URA M) (H : Heap 𝓤) (A : Atoms 𝓤) (at-mem : 
   Opened = tripleOf 𝓤 H A opened.signature (opened.spec 𝓤 H A at-mem run)
 
   pub record Known (C : Calls 𝓤 H) : Type 1 where
-    pub is-exit : Triple 𝓤 (C #decisions·is-exit) IsExit
-    pub named-barrier : Triple 𝓤 (C #decisions·named-barrier) NamedBarrier
-    pub opened : Triple 𝓤 (C #exits·opened) Opened
+    pub is-exit : Triple 𝓤 (C #step-decides·is-exit) IsExit
+    pub named-barrier : Triple 𝓤 (C #step-decides·named-barrier) NamedBarrier
+    pub opened : Triple 𝓤 (C #block-exit·opened) Opened
 
 -- where a step has its parts, and a block its barriers; said here, so that the walk does not measure them
 warp-at : fieldOf S′.mir 0 ≡ there (tyInt w8, 0)
@@ -200,7 +200,7 @@ barrier-for-spec 𝓤 H 𝓜 𝓖 𝓡 =
     concluded 𝓤 H 𝓜 𝓖 𝓡 code.env barrier-for.ended stayed (goes-ref 𝓤 H (𝓖 .A) (givenOf 𝓤 H 𝓜 𝓖) 1 0 tt (plain (λ _. B.the-row)), (goes-none 𝓤 H (𝓖 .A) (givenOf 𝓤 H 𝓜 𝓖) 1 (λ _. u32) yes (λ κs x f. refl), (goes-none 𝓤 H (𝓖 .A) (givenOf 𝓤 H 𝓜 𝓖) 1 (λ _. S.the-row) yes (λ κs x f. refl), tt)))
     (barrier-for.clauses 𝓤 H (𝓖 .A) (𝓜 .mem) (𝓡 .run)) #lent-seen·barrier-for code.function (code.unfolded 𝓤 H 𝓜 𝓡)
     (barrier-for-walks 𝓤 H (𝓖 .A) (givenOf 𝓤 H 𝓜 𝓖) (𝓜 .mem) (𝓡 .run) (over 𝓤 H 𝓜 𝓖 𝓡 code.env) (record {
-      is-exit = cited 𝓤 H (IsExit 𝓤 H (𝓖 .A) (𝓜 .mem) (𝓡 .run)) 𝓜 𝓡 code.env #decisions·is-exit is-exit-def.routine code.calls-decisions·is-exit (is-exit-thm.met 𝓤 H 𝓜 𝓖 𝓡);
-      named-barrier = cited 𝓤 H (NamedBarrier 𝓤 H (𝓖 .A) (𝓜 .mem) (𝓡 .run)) 𝓜 𝓡 code.env #decisions·named-barrier named-barrier-def.routine code.calls-decisions·named-barrier (named-barrier-thm.met 𝓤 H 𝓜 𝓖 𝓡);
-      opened = cited 𝓤 H (Opened 𝓤 H (𝓖 .A) (𝓜 .mem) (𝓡 .run)) 𝓜 𝓡 code.env #exits·opened opened-def.routine code.calls-exits·opened (opened-thm.met 𝓤 H 𝓜 𝓖 𝓡);
+      is-exit = cited 𝓤 H (IsExit 𝓤 H (𝓖 .A) (𝓜 .mem) (𝓡 .run)) 𝓜 𝓡 code.env #step-decides·is-exit is-exit-def.routine code.calls-step-decides·is-exit (is-exit-thm.met 𝓤 H 𝓜 𝓖 𝓡);
+      named-barrier = cited 𝓤 H (NamedBarrier 𝓤 H (𝓖 .A) (𝓜 .mem) (𝓡 .run)) 𝓜 𝓡 code.env #step-decides·named-barrier named-barrier-def.routine code.calls-step-decides·named-barrier (named-barrier-thm.met 𝓤 H 𝓜 𝓖 𝓡);
+      opened = cited 𝓤 H (Opened 𝓤 H (𝓖 .A) (𝓜 .mem) (𝓡 .run)) 𝓜 𝓡 code.env #block-exit·opened opened-def.routine code.calls-block-exit·opened (opened-thm.met 𝓤 H 𝓜 𝓖 𝓡);
     }))

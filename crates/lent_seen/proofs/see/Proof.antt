@@ -65,14 +65,14 @@ use Rattle.tables.proofs.Seen.Laws as X′
 use Rattle.walks.proofs.Walk.{calls-exact, gone1, concluded, over}
 use Rattle.walks.proofs.Lend.{Back, part-shut, rows-shared, rows-shared-back, record-lent, record-lent-back, calls-lending}
 use Rattle.lent_change.proofs.Field.{Barriers, Rows, barriers-kept, barriers-out, barriers-in, rows-kept, rows-out, rows-in}
-use Rattle.block_rows.proofs.warp_at as warp-at
-use Rattle.block_rows.proofs.warp_at.Symbol as warp-at-def
-use Rattle.block_rows.proofs.warp_at.Symbol.{name as #block-rows·warp-at}
-use Rattle.block_rows.proofs.warp_at.Met as warp-at-thm
-use Rattle.block_rows.proofs.barrier_at as barrier-at
-use Rattle.block_rows.proofs.barrier_at.Symbol as barrier-at-def
-use Rattle.block_rows.proofs.barrier_at.Symbol.{name as #block-rows·barrier-at}
-use Rattle.block_rows.proofs.barrier_at.Met as barrier-at-thm
+use Rattle.lent_rows.proofs.warp_at as warp-at
+use Rattle.lent_rows.proofs.warp_at.Symbol as warp-at-def
+use Rattle.lent_rows.proofs.warp_at.Symbol.{name as #lent-rows·warp-at}
+use Rattle.lent_rows.proofs.warp_at.Met as warp-at-thm
+use Rattle.lent_rows.proofs.barrier_at as barrier-at
+use Rattle.lent_rows.proofs.barrier_at.Symbol as barrier-at-def
+use Rattle.lent_rows.proofs.barrier_at.Symbol.{name as #lent-rows·barrier-at}
+use Rattle.lent_rows.proofs.barrier_at.Met as barrier-at-thm
 use Rattle.lent_seen.proofs.barrier_for as barrier-for
 use Rattle.lent_seen.proofs.barrier_for.Symbol as barrier-for-def
 use Rattle.lent_seen.proofs.barrier_for.Symbol.{name as #lent-seen·barrier-for}
@@ -105,8 +105,8 @@ module _ {M : Type 1} (𝓤 : URA M) (H : Heap 𝓤) (A : Atoms 𝓤) (at-mem : 
 
   pub record Known (C : Calls 𝓤 H) : Type 1 where
     pub barrier-for : Triple 𝓤 (C #lent-seen·barrier-for) BarrierFor
-    pub warp-at : Triple 𝓤 (C #block-rows·warp-at) WarpAt
-    pub barrier-at : Triple 𝓤 (C #block-rows·barrier-at) BarrierAt
+    pub warp-at : Triple 𝓤 (C #lent-rows·warp-at) WarpAt
+    pub barrier-at : Triple 𝓤 (C #lent-rows·barrier-at) BarrierAt
     pub together : Triple 𝓤 (C #lent-seen·together) Together
 
 -- where a step has its warp, and a block its parts; said here, so that the walk does not measure them
@@ -263,7 +263,7 @@ see-spec 𝓤 H 𝓜 𝓖 𝓡 =
     (see.clauses 𝓤 H (𝓖 .A) (𝓜 .mem) (𝓡 .run)) #lent-seen·see code.function (code.unfolded 𝓤 H 𝓜 𝓡)
     (see-walks 𝓤 H (𝓖 .A) (givenOf 𝓤 H 𝓜 𝓖) (𝓜 .mem) (𝓡 .run) (over 𝓤 H 𝓜 𝓖 𝓡 code.env) (record {
       barrier-for = cited 𝓤 H (BarrierFor 𝓤 H (𝓖 .A) (𝓜 .mem) (𝓡 .run)) 𝓜 𝓡 code.env #lent-seen·barrier-for barrier-for-def.routine code.calls-lent-seen·barrier-for (barrier-for-thm.met 𝓤 H 𝓜 𝓖 𝓡);
-      warp-at = cited 𝓤 H (WarpAt 𝓤 H (𝓖 .A) (𝓜 .mem) (𝓡 .run)) 𝓜 𝓡 code.env #block-rows·warp-at warp-at-def.routine code.calls-block-rows·warp-at (warp-at-thm.met 𝓤 H 𝓜 𝓖 𝓡);
-      barrier-at = cited 𝓤 H (BarrierAt 𝓤 H (𝓖 .A) (𝓜 .mem) (𝓡 .run)) 𝓜 𝓡 code.env #block-rows·barrier-at barrier-at-def.routine code.calls-block-rows·barrier-at (barrier-at-thm.met 𝓤 H 𝓜 𝓖 𝓡);
+      warp-at = cited 𝓤 H (WarpAt 𝓤 H (𝓖 .A) (𝓜 .mem) (𝓡 .run)) 𝓜 𝓡 code.env #lent-rows·warp-at warp-at-def.routine code.calls-lent-rows·warp-at (warp-at-thm.met 𝓤 H 𝓜 𝓖 𝓡);
+      barrier-at = cited 𝓤 H (BarrierAt 𝓤 H (𝓖 .A) (𝓜 .mem) (𝓡 .run)) 𝓜 𝓡 code.env #lent-rows·barrier-at barrier-at-def.routine code.calls-lent-rows·barrier-at (barrier-at-thm.met 𝓤 H 𝓜 𝓖 𝓡);
       together = cited 𝓤 H (Together 𝓤 H (𝓖 .A) (𝓜 .mem) (𝓡 .run)) 𝓜 𝓡 code.env #lent-seen·together together-def.routine code.calls-lent-seen·together (together-thm.met 𝓤 H 𝓜 𝓖 𝓡);
     }))

@@ -8,8 +8,8 @@ use borrow.Author.Tests.{le-leb}
 use denote.Ref.{now}
 use lib.Dec.{leb}
 use lib.ListN.{length}
-use Rattle.printed.specs.Text.{textOf}
-use Rattle.printed.proofs.Laws.{room-is-enough}
+use Rattle.trace_text.specs.Text.{textOf}
+use Rattle.trace_text.proofs.Laws.{room-is-enough}
 use Rattle.text.proofs.fits.Statement.{statement}
 use Rattle.text.proofs.fits.Tie as tie
 

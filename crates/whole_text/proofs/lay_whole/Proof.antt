@@ -8,7 +8,7 @@ use borrow.Author.Needs.{needs}
 use denote.Ref.{now}
 use lib.ListN.{take, length-take}
 use lib.Seq.{length-take-le}
-use Rattle.printed.specs.Text.{textOf}
+use Rattle.trace_text.specs.Text.{textOf}
 use Rattle.text.proofs.Buffer.{laid-start}
 use Rattle.whole_text.specs.Whole.{LaysWhole}
 use Rattle.whole_text.proofs.Whole.{take-held, text-fits, never-short, lays-whole}

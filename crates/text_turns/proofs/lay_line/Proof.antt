@@ -1,0 +1,31 @@
+-- `text_turns::lay_line` meets its contract: the line is no longer than the longest.
+-- Assumes nothing.
+use Prim.Native.Nat.{_+_}
+use native.Mathlib.Omega.{arith}
+use borrow.Author.Needs.{needs}
+use Rattle.lines.proofs.Lines.{line-most}
+use Rattle.text_turns.proofs.lay_line.Statement.{statement}
+use Rattle.text_turns.proofs.lay_line.Tie as tie
+
+put-line-requires : tie.Need-put-line-requires
+put-line-requires c κs = search needs
+
+add-t11 : tie.Need-add-t11
+add-t11 c =
+    let p = c .before .before in
+    let s = p .before .before .before .before .before in
+    omega (arith, p .put-line .ensures .0, line-most (s .args .number) (s .args .v), s .pre)
+
+same-length : tie.Need-same-length
+same-length c = search needs
+
+returns : tie.Need-returns
+returns c =
+    let p = c .before .before in
+    let a = p .before .before .before .before .before .args in (
+      λ i. record { going = a .l .going; stop = a .l .stop; at = a .l .at + p .put-line .ensures .0 i; cursor = a .l .cursor; step = a .l .step },
+      p .put-line .ensures .1,
+    )
+
+pub lay-line-spec : {M : Type 1} → statement M
+lay-line-spec = tie.close (tie.spec put-line-requires add-t11 same-length returns)
