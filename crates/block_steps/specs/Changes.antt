@@ -71,7 +71,7 @@ abbrev pub arriving : ℕ → Barrier → ℕ → ℕ → Bool → Moved
 arriving alive r w k waits =
     cond (completes alive r) (completing mostWarps Ready k r) (cond waits (goingOn w (Waiting k) k r) (goingOn mostWarps Ready k r))
 
--- what an arrival of warp w at barrier k changes in a block of so many warps, of which those of alive have not exited, where r is the row of the barrier: line 6 to 10, or the arrival
+-- what an arrival of warp w at barrier k changes in a block of so many warps, of which those of alive have not exited, where r is the row of the barrier: the lowest of lines 6 to 10, or the arrival
 unfoldable pub arrivalMoved : ℕ → ℕ → Barrier → ℕ → ℕ → Call → Moved
 arrivalMoved warps alive r w k c =
     let n = lowest (callLines warps r w k c) in

@@ -36,13 +36,7 @@ use Rattle.tables.specs.Refusals.{callOf, actOf}
 use Rattle.tables.specs.Effect.{verdict}
 use Rattle.tables.specs.Laws.{Completes, DoneExactly}
 use Rattle.tables.proofs.Chains.{form-selector, place-below}
-use Rattle.tables.proofs.Laws.{passes, does}
-
--- true is not false
-never : {A : Type 0} {b : Bool} → b ≡ true → b ≡ false → A
-never p q =
-    let z : _≡_ {A = ℕ} 0 1 = cc in
-    absurd (omega arith)
+use Rattle.tables.proofs.Laws.{never, passes, does}
 
 -- ---- a named barrier
 

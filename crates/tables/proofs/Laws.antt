@@ -3,9 +3,10 @@
 use mathlib.Core.Path.{_≡_, refl, sym, ap, _∙_}
 use mathlib.Core.Bool.{Bool, true, false, cond}
 use Prim.Native.Nat.{ℕ, zero, suc, _<_}
+use native.Mathlib.Decide.{ℕ-discrete}
 use native.Mathlib.Omega.{arith}
 use borrow.Author.Tests.{ne-eqb}
-use lib.Dec.{eqb, ltb}
+use lib.Dec.{ltb}
 use lib.ListN.{getD, set}
 use lib.Seq.{set-getD, getD-set-other}
 use Rattle.folds.specs.Lowest.{ascending, holds, Lowest, None}
@@ -45,62 +46,39 @@ effect-accepted v w (Barrier k b) =
 effect-accepted v w (Object a o) = refl
 effect-accepted v w (PendingCount t) = refl
 
--- the effect where the number is 0, and else its refusal
-choice : View → Taken → ℕ → Taken
-choice v e n = cond (eqb n 0) e (refused v n)
-
-choice-zero : (v : View) (e : Taken) → choice v e 0 ≡ e
-unfolding choice
-choice-zero v e = refl
-
-choice-suc : (v : View) (e : Taken) (n : ℕ) → choice v e (suc n) ≡ refused v (suc n)
-unfolding choice
-choice-suc v e n = rw (ne-eqb (suc n) 0 (λ z. omega arith))
-
--- what a verdict says of the number
-number-refused : (v : View) (e : Taken) → isAccepted (e .verdict) ≡ true → (r n : ℕ) → choice v e r .verdict ≡ Refused n → (r ≡ n) × (0 < n)
-number-refused v e h zero n q =
-    let z : true ≡ false = sym h ∙ ap (λ (x : Taken). isAccepted (x .verdict)) (sym (choice-zero v e)) ∙ ap isAccepted q in
-    absurd (let o : _≡_ {A = ℕ} 0 1 = cc in omega arith)
-number-refused v e h (suc r) n q =
-    let k : Refused (suc r) ≡ Refused n = ap (λ (x : Taken). x .verdict) (sym (choice-suc v e r)) ∙ q in
-    let i : suc r ≡ n = cc in
-    (i, omega arith)
-
-number-accepted : (v : View) (e : Taken) (r : ℕ) → isAccepted (choice v e r .verdict) ≡ true → r ≡ 0
-number-accepted v e zero q = refl
-number-accepted v e (suc r) q =
-    let z : false ≡ true = ap (λ (x : Taken). isAccepted (x .verdict)) (sym (choice-suc v e r)) ∙ q in
-    absurd (let o : _≡_ {A = ℕ} 0 1 = cc in omega arith)
-
-number-denied : (v : View) (e : Taken) → isAccepted (e .verdict) ≡ true → (r : ℕ) → isAccepted (choice v e r .verdict) ≡ false → choice v e r ≡ refused v r
-number-denied v e h zero q =
-    let z : true ≡ false = sym h ∙ ap (λ (x : Taken). isAccepted (x .verdict)) (sym (choice-zero v e)) ∙ q in
-    absurd (let o : _≡_ {A = ℕ} 0 1 = cc in omega arith)
-number-denied v e h (suc r) q = choice-suc v e r
-
-is-refused : (v : View) (e : Taken) (r n : ℕ) → r ≡ n → 0 < n → choice v e r .verdict ≡ Refused n
-is-refused v e zero n q p = absurd (omega arith)
-is-refused v e (suc r) n q p = ap (λ (x : Taken). x .verdict) (choice-suc v e r) ∙ ap Refused q
+-- true is not false
+pub never : {A : Type 0} {b : Bool} → b ≡ true → b ≡ false → A
+never p q = let z : _≡_ {A = ℕ} 0 1 = cc in absurd (omega arith)
 
 module _ (v : View) (s : Step) where
   goes-up : ascending 0 (lines v s) ≡ true
   unfolding ascending
   goes-up = refl
 
-  -- the step is the choice of its effect by its number
-  by-number : taken v s ≡ choice v (effect v (s .warp) (s .op)) (refusal v s)
-  unfolding taken choice
-  by-number = refl
+  -- a step with no number does its effect, and one with a number is refused with it
+  of-none : refusal v s ≡ 0 → taken v s ≡ effect v (s .warp) (s .op)
+  unfolding taken
+  of-none e = rw e
+
+  of-number : (refusal v s ≡ 0 → ⊥) → taken v s ≡ refused v (refusal v s)
+  unfolding taken
+  of-number h = rw (ne-eqb (refusal v s) 0 h)
+
+  accepts : refusal v s ≡ 0 → isAccepted (taken v s .verdict) ≡ true
+  accepts e = ap (λ (x : Taken). isAccepted (x .verdict)) (of-none e) ∙ effect-accepted v (s .warp) (s .op)
+
+  refuses : (refusal v s ≡ 0 → ⊥) → isAccepted (taken v s .verdict) ≡ false
+  refuses h = ap (λ (x : Taken). isAccepted (x .verdict)) (of-number h)
 
   pub free : isAccepted (taken v s .verdict) ≡ true → refusal v s ≡ 0
-  free e = number-accepted v (effect v (s .warp) (s .op)) (refusal v s) (ap (λ (x : Taken). isAccepted (x .verdict)) (sym by-number) ∙ e)
+  free e = go (ℕ-discrete (refusal v s) 0)
+    where
+      go : Dec (refusal v s ≡ 0) → refusal v s ≡ 0
+      go (yes z) = z
+      go (no h) = never e (refuses h)
 
   pub denied : isAccepted (taken v s .verdict) ≡ false → taken v s ≡ refused v (refusal v s)
-  denied e =
-      by-number
-      ∙ number-denied v (effect v (s .warp) (s .op)) (effect-accepted v (s .warp) (s .op)) (refusal v s)
-      (ap (λ (x : Taken). isAccepted (x .verdict)) (sym by-number) ∙ e)
+  denied e = of-number (λ z. never (accepts z) e)
 
   -- no line of an accepted step holds
   pub passes : isAccepted (taken v s .verdict) ≡ true → (i : ℕ) → getD (lines v s) i (false, 0) .0 ≡ false
@@ -108,13 +86,22 @@ module _ (v : View) (s : Step) where
   passes e i = none-at (lines v s) refl (free e) i
 
   pub does : isAccepted (taken v s .verdict) ≡ true → taken v s ≡ effect v (s .warp) (s .op)
-  does e = by-number ∙ ap (choice v (effect v (s .warp) (s .op))) (free e) ∙ choice-zero v (effect v (s .warp) (s .op))
+  does e = of-none (free e)
+
+  -- the number of a refusal
+  numbered : (n : ℕ) → taken v s .verdict ≡ Refused n → (refusal v s ≡ n) × (0 < n)
+  numbered n e =
+      let h : refusal v s ≡ 0 → ⊥ = λ z. never (accepts z) (ap isAccepted e) in
+      let q : Refused (refusal v s) ≡ Refused n = ap (λ (x : Taken). x .verdict) (sym (of-number h)) ∙ e in
+      let i : refusal v s ≡ n = cc in
+      (i, lt-of-ne i h)
+    where
+      lt-of-ne : refusal v s ≡ n → (refusal v s ≡ 0 → ⊥) → 0 < n
+      lt-of-ne i h = omega (arith, h)
 
   refused-line : (n : ℕ) → taken v s .verdict ≡ Refused n → Lowest (lines v s) n
   unfolding refusal
-  refused-line n e =
-      let k = number-refused v (effect v (s .warp) (s .op)) (effect-accepted v (s .warp) (s .op)) (refusal v s) n (ap (λ (x : Taken). x .verdict) (sym by-number) ∙ e) in
-      lowest-given (lines v s) goes-up n (k .1) .0 (k .0)
+  refused-line n e = let k = numbered n e in lowest-given (lines v s) goes-up n (k .1) .0 (k .0)
 
   some : (n : ℕ) → Lowest (lines v s) n → 0 < n
   unfolding holds
@@ -124,15 +111,13 @@ module _ (v : View) (s : Step) where
   line-refused : (n : ℕ) → Lowest (lines v s) n → taken v s .verdict ≡ Refused n
   unfolding refusal
   line-refused n w =
-      ap (λ (x : Taken). x .verdict) by-number
-      ∙ is-refused v (effect v (s .warp) (s .op)) (refusal v s) n (lowest-given (lines v s) goes-up n (some n w) .1 w) (some n w)
+      let e = lowest-given (lines v s) goes-up n (some n w) .1 w in
+      let p = some n w in
+      ap (λ (x : Taken). x .verdict) (of-number (λ z. omega arith)) ∙ ap Refused e
 
   none-accepted : None (lines v s) → isAccepted (taken v s .verdict) ≡ true
   unfolding refusal
-  none-accepted f =
-      ap (λ (x : Taken). isAccepted (x .verdict))
-      (by-number ∙ ap (choice v (effect v (s .warp) (s .op))) (none-given (lines v s) goes-up .1 f) ∙ choice-zero v (effect v (s .warp) (s .op)))
-      ∙ effect-accepted v (s .warp) (s .op)
+  none-accepted f = accepts (none-given (lines v s) goes-up .1 f)
 
   accepted-none : isAccepted (taken v s .verdict) ≡ true → None (lines v s)
   unfolding refusal
@@ -143,14 +128,12 @@ no-number : (v : Verdict) → isAccepted v ≡ true → numberOf v ≡ 0
 no-number (Refused n) e = cc
 no-number (Accepted v d r) e = refl
 
-number-of : (v : View) (e : Taken) → isAccepted (e .verdict) ≡ true → (r : ℕ) → numberOf (choice v e r .verdict) ≡ r
-number-of v e h zero = ap (λ (x : Taken). numberOf (x .verdict)) (choice-zero v e) ∙ no-number (e .verdict) h
-number-of v e h (suc r) = ap (λ (x : Taken). numberOf (x .verdict)) (choice-suc v e r)
-
 pub number-given : NumberGiven
-number-given t s =
-    let v = viewOf t s in
-    ap (λ (x : Taken). numberOf (x .verdict)) (by-number v s) ∙ number-of v (effect v (s .warp) (s .op)) (effect-accepted v (s .warp) (s .op)) (refusal v s)
+number-given t s = go (ℕ-discrete (refusal (viewOf t s) s) 0)
+  where
+    go : Dec (refusal (viewOf t s) s ≡ 0) → numberOf (taken (viewOf t s) s .verdict) ≡ refusal (viewOf t s) s
+    go (yes z) = no-number (verdict t s) (accepts (viewOf t s) s z) ∙ sym z
+    go (no h) = ap (λ (x : Taken). numberOf (x .verdict)) (of-number (viewOf t s) s h)
 
 pub refused-exactly : RefusedExactly
 refused-exactly t s n = (refused-line (viewOf t s) s n, line-refused (viewOf t s) s n)
