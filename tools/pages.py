@@ -18,7 +18,7 @@ STAND_IN = re.compile(r"(?:[A-Z]|[A-Z]{2,})(?:\..*)?")  # X.antt, FUNCTION: whoe
 
 # Words that look like names of the project and are none, by what they are.
 FOREIGN = {
-    "the language": {"ensures", "requires", "static"},
+    "the language": {"ensures", "if", "requires", "static"},
     "the C library": {"close", "open", "read", "write", "SIZE_MAX"},
     "other programs": {"parallel", "qemu-user", "qemu-x86_64", "rsync", "rt"},
     "PTX": {"and", "atom", "barrier", "exit", "or", "popc", "vote"},
