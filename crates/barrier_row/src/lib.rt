@@ -14,7 +14,7 @@ ghost use Rattle.barrier_row.specs.Rows.{countOf, badThreads, clashes as
 pub const LARGEST: u32 = 4294967295;
 
 // A row's thread count, 0 for all.
-pub fn count_of(t: Threads) -> u16
+fn count_of(t: Threads) -> u16
     ensures { λ r. ⌜ r ≡ countOf t ⌝ }
 {
     match t {

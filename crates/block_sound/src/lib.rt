@@ -100,7 +100,7 @@ fn rows_sound(b: Block) -> bool
 }
 
 // Whether every barrier row's waiting set has exactly the warps that wait there; the first disagreement ends the check.
-pub fn agrees(b: Block) -> bool
+fn agrees(b: Block) -> bool
     ensures { λ r. ⌜ r ≡ agreeing b ⌝ }
 {
     let mut ok = true;

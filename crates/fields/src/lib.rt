@@ -27,7 +27,7 @@ fn number_in(s: &[u8], width: usize) -> u64
 }
 
 // The number in the width bytes from at on, of more than 8 the first 8; bytes past the end count as 0.
-pub fn number(s: &[u8], at: usize, width: usize) -> u64
+fn number(s: &[u8], at: usize, width: usize) -> u64
     ensures { λ r. ⌜ (r ≡ num (upTo8 width) (drop at (now (s .entry)))) × (r < room (upTo8 width)) ⌝ }
 {
     if s.len() <= at {

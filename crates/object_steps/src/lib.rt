@@ -34,7 +34,7 @@ fn tell(o: Object, yes: bool) -> Answer
 }
 
 // A test by token.
-pub fn test_token(o: Object, slot: u8, token: u64) -> Answer
+fn test_token(o: Object, slot: u8, token: u64) -> Answer
     ensures { λ r. ⌜ r ≡ stepRow o slot (Act.Token token) ⌝ }
 {
     if !o.live {
@@ -50,7 +50,7 @@ pub fn test_token(o: Object, slot: u8, token: u64) -> Answer
 }
 
 // A test by parity; in phase 0 parity 1 says no.
-pub fn test_parity(o: Object, parity: u8) -> Answer
+fn test_parity(o: Object, parity: u8) -> Answer
     ensures { λ r. ⌜ r ≡ stepRow o 0 (Act.Parity parity) ⌝ }
 {
     if !o.live {

@@ -49,7 +49,7 @@ pub fn below(n: u8) -> u32
     if n < 32 { (1 << (n as u32)) - 1 } else { ALL }
 }
 
-// Whether the set names only warps below n: each is one of those. In a walk over many sets the compiler makes that set once; a shift by n it would make for each.
+// Whether the set names only warps below n.
 pub fn within(n: u8, set: u32) -> bool
     ensures { λ r. ⌜ r ≡ withinOf n set ⌝ }
 {

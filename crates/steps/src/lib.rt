@@ -8,6 +8,7 @@ ghost use Rattle.steps.specs.declared.Op.the-variants.{Barrier, Object};
 ghost use Rattle.steps.specs.Step.{lengthOf, row, stepOf, readAt};
 ghost use Rattle.steps.specs.Fields.{width, opWith};
 
+pub mod kinds;
 pub mod lengths;
 
 // What a warp does at a named barrier.
@@ -79,10 +80,10 @@ fn barrier_step(kind: u8, s: &[u8], at: usize) -> BarrierStep
     ensures { λ r. ⌜ ((w x : ℕ) → Barrier x r ≡ opWith kind (w ∷ x ∷ []) (drop at (now (s .entry)))) ⌝ }
 {
     match kind {
-        2 => BarrierStep::SyncAll,
-        3 => BarrierStep::Sync(fields::two(s, at)),
-        4 => BarrierStep::Arrive(fields::two(s, at)),
-        5 => BarrierStep::RedAll {
+        kinds::SYNC_ALL => BarrierStep::SyncAll,
+        kinds::SYNC => BarrierStep::Sync(fields::two(s, at)),
+        kinds::BARRIER_ARRIVE => BarrierStep::Arrive(fields::two(s, at)),
+        kinds::RED_ALL => BarrierStep::RedAll {
             selector: fields::one(s, at),
             mask: fields::four(s, at + 1),
         },
@@ -100,14 +101,14 @@ fn counted(kind: u8, n: u32) -> ObjectStep
     ensures { λ r. ⌜ ((w x : ℕ) (l : List ℕ) → Object x r ≡ opWith kind (w ∷ x ∷ n ∷ []) l) ⌝ }
 {
     match kind {
-        7 => ObjectStep::Init(n),
-        9 => ObjectStep::Arrive(n),
-        10 => ObjectStep::ArriveNoComplete(n),
-        11 => ObjectStep::ArriveExpect(n),
-        12 => ObjectStep::Drop(n),
-        13 => ObjectStep::DropExpect(n),
-        14 => ObjectStep::Expect(n),
-        15 => ObjectStep::Complete(n),
+        kinds::INIT => ObjectStep::Init(n),
+        kinds::ARRIVE => ObjectStep::Arrive(n),
+        kinds::ARRIVE_NO_COMPLETE => ObjectStep::ArriveNoComplete(n),
+        kinds::ARRIVE_EXPECT => ObjectStep::ArriveExpect(n),
+        kinds::DROP => ObjectStep::Drop(n),
+        kinds::DROP_EXPECT => ObjectStep::DropExpect(n),
+        kinds::EXPECT => ObjectStep::Expect(n),
+        kinds::COMPLETE => ObjectStep::Complete(n),
         _ => ObjectStep::DropNoComplete(n),
     }
 }
@@ -118,25 +119,25 @@ fn object_step(kind: u8, s: &[u8], at: usize) -> ObjectStep
     ensures { λ r. ⌜ ((w x : ℕ) → Object x r ≡ opWith kind (w ∷ x ∷ []) (drop at (now (s .entry)))) ⌝ }
 {
     match kind {
-        8 => ObjectStep::Inval,
-        16 => ObjectStep::TestToken(fields::eight(s, at)),
-        17 => ObjectStep::TestParity(fields::one(s, at)),
+        kinds::INVAL => ObjectStep::Inval,
+        kinds::TEST_TOKEN => ObjectStep::TestToken(fields::eight(s, at)),
+        kinds::TEST_PARITY => ObjectStep::TestParity(fields::one(s, at)),
         _ => counted(kind, fields::four(s, at)),
     }
 }
 
-// What a known kind says. Its fields behind the warp stand from at on, and no others are read: each read costs time at every step.
+// What a known kind says. Its fields behind the warp stand from at on, and no others are read.
 fn op_at(kind: u8, s: &[u8], at: usize) -> Op
     requires { ⌜ (0 < lengthOf kind) × (at + 4 < 18446744073709551616) ⌝ }
     ensures { λ r. ⌜ ((w : ℕ) → r ≡ opWith kind (w ∷ []) (drop at (now (s .entry)))) ⌝ }
 {
-    if kind == 1 {
+    if kind == kinds::EXIT {
         return Op::Exit;
     }
-    if kind <= 6 {
+    if kind <= kinds::RED {
         return Op::Barrier(fields::one(s, at), barrier_step(kind, s, at + 1));
     }
-    if kind == 18 {
+    if kind == kinds::PENDING_COUNT {
         return Op::PendingCount(fields::eight(s, at));
     }
     Op::Object(fields::two(s, at), object_step(kind, s, at + 2))

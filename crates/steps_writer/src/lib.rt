@@ -4,6 +4,7 @@ use steps::ObjectStep;
 use steps::Op;
 use steps::Step;
 use steps::Wrote;
+use steps::kinds;
 use steps::lengths;
 ghost use mathlib.Core.Path.{_≡_};
 ghost use Prim.Native.Nat.{_+_, _≤_, _<_};
@@ -22,15 +23,23 @@ fn barrier_parts(w: u64, x: u64, b: BarrierStep) -> Parts
     ensures { λ r. ⌜ (r .0 ≡ barrierKind b) × (r .1 ≡ barrierValues w x b) ⌝ }
 {
     match b {
-        BarrierStep::SyncAll => Parts(2, [w, x, 0, 0, 0]),
-        BarrierStep::Sync(t) => Parts(3, [w, x, t as u64, 0, 0]),
-        BarrierStep::Arrive(t) => Parts(4, [w, x, t as u64, 0, 0]),
-        BarrierStep::RedAll { selector, mask } => Parts(5, [w, x, selector as u64, mask as u64, 0]),
+        BarrierStep::SyncAll => Parts(kinds::SYNC_ALL, [w, x, 0, 0, 0]),
+        BarrierStep::Sync(t) => Parts(kinds::SYNC, [w, x, t as u64, 0, 0]),
+        BarrierStep::Arrive(t) => Parts(kinds::BARRIER_ARRIVE, [w, x, t as u64, 0, 0]),
+        BarrierStep::RedAll { selector, mask } => Parts(
+            kinds::RED_ALL,
+            [w, x, selector as u64, mask as u64, 0],
+        ),
         BarrierStep::Red {
             selector,
             threads,
             mask,
-        } => { Parts(6, [w, x, selector as u64, threads as u64, mask as u64]) }
+        } => {
+            Parts(
+                kinds::RED,
+                [w, x, selector as u64, threads as u64, mask as u64],
+            )
+        }
     }
 }
 
@@ -39,18 +48,18 @@ fn object_parts(w: u64, x: u64, o: ObjectStep) -> Parts
     ensures { λ r. ⌜ (r .0 ≡ objectKind o) × (r .1 ≡ objectValues w x o) ⌝ }
 {
     match o {
-        ObjectStep::Init(n) => Parts(7, [w, x, n as u64, 0, 0]),
-        ObjectStep::Inval => Parts(8, [w, x, 0, 0, 0]),
-        ObjectStep::Arrive(n) => Parts(9, [w, x, n as u64, 0, 0]),
-        ObjectStep::ArriveNoComplete(n) => Parts(10, [w, x, n as u64, 0, 0]),
-        ObjectStep::ArriveExpect(n) => Parts(11, [w, x, n as u64, 0, 0]),
-        ObjectStep::Drop(n) => Parts(12, [w, x, n as u64, 0, 0]),
-        ObjectStep::DropExpect(n) => Parts(13, [w, x, n as u64, 0, 0]),
-        ObjectStep::Expect(n) => Parts(14, [w, x, n as u64, 0, 0]),
-        ObjectStep::Complete(n) => Parts(15, [w, x, n as u64, 0, 0]),
-        ObjectStep::TestToken(n) => Parts(16, [w, x, n, 0, 0]),
-        ObjectStep::TestParity(n) => Parts(17, [w, x, n as u64, 0, 0]),
-        ObjectStep::DropNoComplete(n) => Parts(19, [w, x, n as u64, 0, 0]),
+        ObjectStep::Init(n) => Parts(kinds::INIT, [w, x, n as u64, 0, 0]),
+        ObjectStep::Inval => Parts(kinds::INVAL, [w, x, 0, 0, 0]),
+        ObjectStep::Arrive(n) => Parts(kinds::ARRIVE, [w, x, n as u64, 0, 0]),
+        ObjectStep::ArriveNoComplete(n) => Parts(kinds::ARRIVE_NO_COMPLETE, [w, x, n as u64, 0, 0]),
+        ObjectStep::ArriveExpect(n) => Parts(kinds::ARRIVE_EXPECT, [w, x, n as u64, 0, 0]),
+        ObjectStep::Drop(n) => Parts(kinds::DROP, [w, x, n as u64, 0, 0]),
+        ObjectStep::DropExpect(n) => Parts(kinds::DROP_EXPECT, [w, x, n as u64, 0, 0]),
+        ObjectStep::Expect(n) => Parts(kinds::EXPECT, [w, x, n as u64, 0, 0]),
+        ObjectStep::Complete(n) => Parts(kinds::COMPLETE, [w, x, n as u64, 0, 0]),
+        ObjectStep::TestToken(n) => Parts(kinds::TEST_TOKEN, [w, x, n, 0, 0]),
+        ObjectStep::TestParity(n) => Parts(kinds::TEST_PARITY, [w, x, n as u64, 0, 0]),
+        ObjectStep::DropNoComplete(n) => Parts(kinds::DROP_NO_COMPLETE, [w, x, n as u64, 0, 0]),
     }
 }
 
@@ -61,10 +70,10 @@ fn parts_of(step: Step) -> Parts
     let w = step.warp as u64;
     let op = step.op;
     match op {
-        Op::Exit => Parts(1, [w, 0, 0, 0, 0]),
+        Op::Exit => Parts(kinds::EXIT, [w, 0, 0, 0, 0]),
         Op::Barrier(x, b) => barrier_parts(w, x as u64, b),
         Op::Object(x, o) => object_parts(w, x as u64, o),
-        Op::PendingCount(n) => Parts(18, [w, n, 0, 0, 0]),
+        Op::PendingCount(n) => Parts(kinds::PENDING_COUNT, [w, n, 0, 0, 0]),
     }
 }
 
