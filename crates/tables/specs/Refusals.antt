@@ -98,24 +98,24 @@ badToken o (PendingCount t) = tooLarge t
 -- document 01's lines, on what a step sees and the row of the object that it names
 abbrev pub first : Seen → object.Object → Step → List Line
 first v o s =
-    (not (v .sound), 3)
-    ∷ (noSuchWarp (v .warps) (s .warp), 4)
-    ∷ (notReady (v .warp), 5)
-    ∷ (ofBarrier (λ k c. noSuchBarrier k) (s .op), 6)
-    ∷ (ofBarrier (λ k c. badThreads (v .warps) (c .threads)) (s .op), 7)
-    ∷ (badSelector (s .op), 8)
-    ∷ (ofBarrier (λ k c. clashes (v .barrier) c) (s .op), 9)
-    ∷ (ofBarrier (λ k c. alreadyArrived (v .barrier) (s .warp)) (s .op), 10)
-    ∷ (ofObject (λ a x. badAddress a) (s .op), 11)
-    ∷ (ofObject (λ a x. row.notLive o x) (s .op), 12)
-    ∷ (ofObject (λ a x. row.alreadyLive o x) (s .op), 13)
-    ∷ (ofObject (λ a x. row.badCount o x) (s .op), 14)
-    ∷ (ofObject (λ a x. row.outOfRange o x) (s .op), 15)
-    ∷ (ofObject (λ a x. row.unseen o x) (s .op), 16)
-    ∷ (ofObject (λ a x. row.endsQuietly o x) (s .op), 17)
-    ∷ (ofObject (λ a x. row.endsLast o x) (s .op), 18)
-    ∷ (badToken o (s .op), 19)
-    ∷ (ofObject (λ a x. row.badParity x) (s .op), 20)
+    (not (v .sound), 3)  -- tables not sound
+    ∷ (noSuchWarp (v .warps) (s .warp), 4)  -- no such warp
+    ∷ (notReady (v .warp), 5)  -- warp not ready
+    ∷ (ofBarrier (λ k c. noSuchBarrier k) (s .op), 6)  -- barrier above 15
+    ∷ (ofBarrier (λ k c. badThreads (v .warps) (c .threads)) (s .op), 7)  -- threads given, and 0, no multiple of 32, or above 32 times the warps
+    ∷ (badSelector (s .op), 8)  -- selector not 0, 1, 2, 4, 5 or 6
+    ∷ (ofBarrier (λ k c. clashes (v .barrier) c) (s .op), 9)  -- barrier active with another thread count or form
+    ∷ (ofBarrier (λ k c. alreadyArrived (v .barrier) (s .warp)) (s .op), 10)  -- this warp has already arrived there
+    ∷ (ofObject (λ a x. badAddress a) (s .op), 11)  -- address no multiple of 8, or above 504
+    ∷ (ofObject (λ a x. row.notLive o x) (s .op), 12)  -- object not live (all but init)
+    ∷ (ofObject (λ a x. row.alreadyLive o x) (s .op), 13)  -- object live (init)
+    ∷ (ofObject (λ a x. row.badCount o x) (s .op), 14)  -- init count not 1 to 1,048,575; arrival or drop count 0 or above pending; drop count also not below expected
+    ∷ (ofObject (λ a x. row.outOfRange o x) (s .op), 15)  -- transaction count would leave its range
+    ∷ (ofObject (λ a x. row.unseen o x) (s .op), 16)  -- arrival or drop while the previous phase is unseen
+    ∷ (ofObject (λ a x. row.endsQuietly o x) (s .op), 17)  -- a noComplete step would complete the phase
+    ∷ (ofObject (λ a x. row.endsLast o x) (s .op), 18)  -- the step would complete phase 4,294,967,295
+    ∷ (badToken o (s .op), 19)  -- token of 2^58 or more; in a test also another object's, or of a phase neither current nor the one before
+    ∷ (ofObject (λ a x. row.badParity x) (s .op), 20)  -- parity above 1
     ∷ []
 
 -- the lines above 20
