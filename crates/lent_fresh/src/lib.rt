@@ -3,7 +3,7 @@ use block::MOST_WARPS;
 use block::Turn;
 use block::Verdict;
 use object::Object;
-use object_list::SLOTS;
+use object::SLOTS;
 use tables::Tally;
 ghost use mathlib.Core.Path.{_≡_};
 ghost use Rattle.tables.specs.Tables.{freshTally};

@@ -4,6 +4,9 @@ ghost use Rattle.object.specs.Tokens.{token, pendingCount};
 ghost use Rattle.object.specs.Row.{dead, outside, stepRow};
 ghost use Rattle.object.specs.Soundness.{liveSound, deadSound, soundRow};
 
+// There are 64 objects.
+pub const SLOTS: usize = 64;
+
 // The most that is expected, and the most transactions either way.
 pub const MOST: u32 = 1048575;
 

@@ -1,12 +1,10 @@
 // The list of object rows that the caller lends: one row copied or stored, whether all are sound, and all made dead.
 use object::Object;
+use object::SLOTS;
 ghost use mathlib.Core.Path.{_≡_};
 ghost use lib.ListN.{length, getD, set, replicate};
 ghost use Rattle.object.specs.Row.{dead};
 ghost use Rattle.tables.specs.Tables.{soundObjects};
-
-// How many records the list has.
-pub const SLOTS: usize = 64;
 
 // A copy of row i, and of the dead row past the end.
 pub fn row_at(objects: &[Object], i: usize) -> Object

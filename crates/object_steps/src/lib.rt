@@ -4,6 +4,7 @@ use object::Answer;
 use object::Object;
 use object::PHASE_UNIT;
 use object::SLOT_UNIT;
+use object::SLOTS;
 use object::TOKEN_END;
 ghost use mathlib.Core.Path.{_≡_};
 ghost use mathlib.Core.Bool.{false};
@@ -11,7 +12,7 @@ ghost use Rattle.folds.specs.Folds.{digit};
 ghost use Rattle.object.specs.Row.{told, stepRow};
 
 // How many objects there are.
-const SLOTS: u64 = 64;
+const SLOT_COUNT: u64 = SLOTS as u64;
 
 // What a test answers: a yes is 1 and sets the seen mark.
 fn tell(o: Object, yes: bool) -> Answer
@@ -43,7 +44,7 @@ fn test_token(o: Object, slot: u8, token: u64) -> Answer
     let phase = o.phase as u64;
     let of = token / PHASE_UNIT;
     let far = (of != phase) & (of + 1 != phase);
-    if (TOKEN_END <= token) | (token / SLOT_UNIT % SLOTS != slot as u64) | far {
+    if (TOKEN_END <= token) | (token / SLOT_UNIT % SLOT_COUNT != slot as u64) | far {
         return Answer::Refused(19);
     }
     tell(o, of < phase)

@@ -2,7 +2,7 @@
 use block::Block;
 use block::Verdict;
 use object::Object;
-use object_list::SLOTS;
+use object::SLOTS;
 use steps::Step;
 use tables::Tally;
 ghost use mathlib.Core.Path.{_≡_};

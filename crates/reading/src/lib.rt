@@ -1,11 +1,12 @@
 // Reading traces. What was read is told by a `Read`, and that it can't be read by a `Failure`; each tells of which argument. Only the functions here make them, so that no other function can answer for more bytes than were read or for fewer, take one file for another, or call a trace unreadable that nobody tried to read.
 use libc::STDIN_FILENO;
+use trace_look::MOST_BYTES;
 ghost use mathlib.Core.Path.{_≡_};
 ghost use Rattle.io.specs.Counts.{Counts};
 ghost use Rattle.reading.specs.Reading.{Fills, pathOf};
 
 // One byte past the longest trace, so that a longer one is seen to be too long.
-pub const TRACE_ROOM: usize = 65537;
+pub const TRACE_ROOM: usize = MOST_BYTES + 1;
 
 // What was read: the number of the argument that names the file, 0 for standard input; so many bytes of its path at the start of one buffer; and so many bytes of the trace at the start of another.
 pub struct Read {

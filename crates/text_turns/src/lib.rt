@@ -4,7 +4,7 @@ use block::Block;
 use block::Verdict;
 use lent_run::Checked;
 use object::Object;
-use object_list::SLOTS;
+use object::SLOTS;
 use tables::Tally;
 use trace_look::Laying;
 ghost use mathlib.Core.Path.{_≡_};

@@ -1,13 +1,15 @@
 // Laying the whole text of a trace that was read, in a buffer that is never too short.
+use lines::MOST_LINE;
 use reading::Read;
 use text::Laid;
+use trace_look::MOST_BYTES;
 ghost use mathlib.Core.Path.{_≡_};
 ghost use lib.ListN.{length};
 ghost use Rattle.reading.specs.Reading.{readOf};
 ghost use Rattle.whole_text.specs.Whole.{LaysWhole};
 
-// The room for the text of any trace: text::room(65537). Less might do, and only this much is proved to be enough.
-pub const TEXT_ROOM: usize = 1835120;
+// The room for the text of any trace, as `text::room` says it of the longest.
+pub const TEXT_ROOM: usize = (MOST_BYTES / 2 + 2) * MOST_LINE;
 
 // How many of the bytes that were read lie in the buffer: all of them where it is the one that was read into.
 fn held(read: Read, buf: &[u8]) -> usize
