@@ -19,12 +19,12 @@ use Rattle.object.specs.Soundness.{deadSound, soundRow}
 use Rattle.block.specs.declared.Verdict.{Verdict}
 use Rattle.block.specs.declared.Verdict.the-variants.{Refused, Accepted}
 use Rattle.block.specs.Tables.{soundBlock}
-use Rattle.tables.specs.Tables.{Tables}
+use Rattle.tables.specs.declared.Tally.{Tally}
+use Rattle.tables.specs.Tables.{Tables, freshTally, tallied}
 use Rattle.tables.specs.Refusals.{refusal}
-use Rattle.tables.specs.Effect.{taken, verdict, after, State, next, run}
+use Rattle.tables.specs.Effect.{taken, verdict, State, next, run, verdicts, after}
 use Rattle.orders.specs.Due.{objectAt}
 use Rattle.orders.specs.Finishes.{none, answerOf}
-use Rattle.orders_tight.specs.Example.{verdicts}
 use Rattle.orders_tight.specs.Tight.{equals, conditions, met, AllMet, Needed, Tight, WithinFollows, LiveFollows, PendingSpared}
 use Rattle.orders.proofs.Step.{past-end, row-sound}
 use Rattle.orders.proofs.Finishes.{going-finishes}
@@ -97,19 +97,24 @@ once (Accepted v d r ∷ (u ∷ vs)) = not d && once (u ∷ vs)
 completes-once : (x : State) (a : ℕ) (s : Step) (l : List Step)
     → ((pre : List Step) (u : Step) (post : List Step) → s ∷ l ≡ pre ++ (u ∷ post)
     → verdict (run x pre .tables) u ≡ Accepted (answerOf (objectAt (run x pre .tables) a) (u .op)) (none post) 0)
-    → once (verdicts (x .tables) (s ∷ l)) ≡ true
+    → once (verdicts x (s ∷ l)) ≡ true
 completes-once x a s [] f = subst⁻¹ (λ (v : Verdict). once (v ∷ []) ≡ true) (f [] s [] refl) refl
 completes-once x a s (u ∷ l) f =
-    subst⁻¹ (λ (v : Verdict). once (v ∷ verdicts (after (x .tables) s) (u ∷ l)) ≡ true) (f [] s (u ∷ l) refl)
+    subst⁻¹ (λ (v : Verdict). once (v ∷ verdicts (next x s) (u ∷ l)) ≡ true) (f [] s (u ∷ l) refl)
     (completes-once (next x s) a u l (λ pre k post e. f (s ∷ pre) k post (ap (λ (r : List Step). s ∷ r) e)))
+
+-- the tally is nothing to a verdict
+any-tally : (t : Tables) (y z : Tally) (l : List Step) → verdicts (record { tables = t; tally = y }) l ≡ verdicts (record { tables = t; tally = z }) l
+any-tally t y z [] = refl
+any-tally t y z (s ∷ l) = ap (λ (vs : List Verdict). verdict t s ∷ vs) (any-tally (after t s) (tallied y (verdict t s)) (tallied z (verdict t s)) l)
 
 -- so steps with other verdicts don't
 needed : (k : ℕ) (t : Tables) (a : ℕ) (s : Step) (l : List Step) (vs : List Verdict)
-    → conditions t a (s ∷ l) ≡ set met k false → verdicts t (s ∷ l) ≡ vs → once vs ≡ false → Needed k t a (s ∷ l) vs
+    → conditions t a (s ∷ l) ≡ set met k false → verdicts (record { tables = t; tally = freshTally }) (s ∷ l) ≡ vs → once vs ≡ false → Needed k t a (s ∷ l) vs
 needed k t a s l vs c e h = record {
   broken = c;
   answers = e;
-  fails = λ y f. false≢true (sym h ∙ ap once (sym e) ∙ completes-once (record { tables = t; tally = y }) a s l (f .steps));
+  fails = λ y f. false≢true (sym h ∙ ap once (sym e ∙ any-tally t freshTally y (s ∷ l)) ∙ completes-once (record { tables = t; tally = y }) a s l (f .steps));
 }
 
 pub tight : Tight

@@ -7,17 +7,11 @@ use lib.IntN.{pos}
 use lib.ListN.{take}
 use Rattle.steps.specs.declared.ObjectStep.the-variants.{Init, Arrive, ArriveExpect, Drop, DropExpect, Complete, TestToken, TestParity}
 use Rattle.steps.specs.declared.Step.{Step}
-use Rattle.block.specs.declared.Verdict.{Verdict}
 use Rattle.block.specs.declared.Verdict.the-variants.{Accepted}
-use Rattle.tables.specs.Tables.{Tables, freshTables, freshTally}
-use Rattle.tables.specs.Effect.{verdict, after, State, run}
+use Rattle.tables.specs.Tables.{freshTables, freshTally}
+use Rattle.tables.specs.Effect.{verdict, State, run, verdicts}
 use Rattle.orders.specs.Due.{Due}
 use Rattle.orders.specs.Finishes.{withRow, stepOn}
-
--- the verdicts of a run, step by step
-abbrev pub verdicts : Tables → List Step → List Verdict
-verdicts t [] = []
-verdicts t (s ∷ l) = verdict t s ∷ verdicts (after t s) l
 
 -- three warps, and an init of 5
 abbrev pub started : State
@@ -58,7 +52,7 @@ ending = record {
 pub record Example : Type 0 where
   pub due : Due (started .tables) 16 one
   pub reordered : Perm one other
-  pub answers : verdicts (started .tables) one
+  pub answers : verdicts started one
       ≡ (Accepted 0 false 0
       ∷ Accepted 2097157 false 0
       ∷ Accepted 2097156 false 0
@@ -67,7 +61,7 @@ pub record Example : Type 0 where
       ∷ Accepted 2097154 false 0
       ∷ Accepted 2097153 true 0
       ∷ [])
-  pub otherAnswers : verdicts (started .tables) other
+  pub otherAnswers : verdicts started other
       ≡ (Accepted 2097157 false 0
       ∷ Accepted 2097156 false 0
       ∷ Accepted 2097155 false 0

@@ -8,7 +8,6 @@ use Prim.Native.Nat.{ℕ, _%_, _≤_, _<_}
 use lib.Dec.{eqb, leb, ltb}
 use lib.IntN.{ℤ, pos, negsuc, _+ℤ_}
 use lib.ListN.{set, replicate}
-use Rattle.steps.specs.declared.ObjectStep.{ObjectStep}
 use Rattle.steps.specs.declared.ObjectStep.the-variants.{Arrive, ArriveNoComplete, ArriveExpect, Drop, Expect, Complete}
 use Rattle.steps.specs.declared.Step.{Step}
 use Rattle.object.specs.declared.Object.{Object}
@@ -18,11 +17,11 @@ use Rattle.block.specs.declared.Verdict.the-variants.{Refused, Accepted}
 use Rattle.block.specs.Tables.{freshBlock}
 use Rattle.block_steps.specs.Steps.{without}
 use Rattle.tables.specs.declared.Tally.{Tally}
-use Rattle.tables.specs.Tables.{Tables, soundTables, freshTables}
-use Rattle.tables.specs.Effect.{State}
+use Rattle.tables.specs.Tables.{Tables, soundTables, lastAddress, freshTables, freshTally}
+use Rattle.tables.specs.Effect.{State, verdicts}
+use Rattle.strikes.specs.Strikes.{objectStep, liveRow}
 use Rattle.orders.specs.Due.{objectAt, counts, drops, expectations, completions, each, on, takesPart, atLeastOne, fromReady, Due}
 use Rattle.orders.specs.Finishes.{withRow, stepOn, Finishes}
-use Rattle.orders_tight.specs.Example.{verdicts}
 
 -- ---- one condition broken
 
@@ -36,7 +35,7 @@ abbrev pub conditions : Tables → ℕ → List Step → List Bool
 conditions t a l =
     soundTables t
     ∷ eqb (a % 8) 0
-    ∷ leb a 504
+    ∷ leb a lastAddress
     ∷ objectAt t a .live
     ∷ ltb 0 (objectAt t a .pending)
     ∷ (objectAt t a .seen || eqb (objectAt t a .phase) 0)
@@ -63,26 +62,18 @@ AllMet = (t : Tables) (a : ℕ) (l : List Step) → Due t a l ↔ (conditions t 
 -- condition k, counted from 0, is broken and no other; the steps get the verdicts vs, and they don't finish the phase, whatever the tally
 pub record Needed (k : ℕ) (t : Tables) (a : ℕ) (l : List Step) (vs : List Verdict) : Type 0 where
   pub broken : conditions t a l ≡ set met k false
-  pub answers : verdicts t l ≡ vs
+  pub answers : verdicts (record { tables = t; tally = freshTally }) l ≡ vs
   pub fails : (y : Tally) → Finishes (record { tables = t; tally = y }) a l → ⊥
 
 -- ---- the cases
 
--- a live row: expected, pending, transactions, phase, seen
-abbrev pub liveRow : ℕ → ℕ → ℤ → ℕ → Bool → Object
-liveRow e p z ph s = record { live = true; expected = e; pending = p; tx = z; phase = ph; seen = s }
-
 -- two warps, and the row of the object at 16
-abbrev pub tablesOf : Object → Tables
-tablesOf o = withRow (freshTables 2) 16 o
-
--- a step of warp 0 on it
-abbrev pub objectStep : ObjectStep → Step
-objectStep o = stepOn 0 16 o
+abbrev pub withObject : Object → Tables
+withObject o = withRow (freshTables 2) 16 o
 
 -- one arrival is expected and pending in phase 0
 abbrev pub single : Tables
-single = tablesOf (liveRow 1 1 (pos 0) 0 true)
+single = withObject (liveRow 1 1 (pos 0) 0 true)
 
 -- one case or more for each condition but two, which follow from others
 pub record Tight : Type 0 where
@@ -94,13 +85,13 @@ pub record Tight : Type 0 where
   -- 2: no case, since in sound tables no object is live above 504 (WithinFollows)
   -- 3: no case, since in sound tables an object with arrivals pending is live (LiveFollows)
   -- 4: no arrival is pending, and no step is left (where one is left, nothing fails: PendingSpared)
-  pub pending : Needed 4 (tablesOf (liveRow 1 0 (pos 0) 0 true)) 16 [] []
+  pub pending : Needed 4 (withObject (liveRow 1 0 (pos 0) 0 true)) 16 [] []
   -- 5: the previous phase is unseen
-  pub seen : Needed 5 (tablesOf (liveRow 1 1 (pos 0) 1 false)) 16 (objectStep (Arrive 1) ∷ []) (Refused 16 ∷ [])
+  pub seen : Needed 5 (withObject (liveRow 1 1 (pos 0) 1 false)) 16 (objectStep (Arrive 1) ∷ []) (Refused 16 ∷ [])
   -- 6: the last phase
-  pub phase : Needed 6 (tablesOf (liveRow 1 1 (pos 0) lastPhase true)) 16 (objectStep (Arrive 1) ∷ []) (Refused 18 ∷ [])
+  pub phase : Needed 6 (withObject (liveRow 1 1 (pos 0) lastPhase true)) 16 (objectStep (Arrive 1) ∷ []) (Refused 18 ∷ [])
   -- 7: a step on another object
-  pub on : Needed 7 (withRow (tablesOf (liveRow 2 2 (pos 0) 0 true)) 24 (liveRow 2 2 (pos 0) 0 true)) 16
+  pub on : Needed 7 (withRow (withObject (liveRow 2 2 (pos 0) 0 true)) 24 (liveRow 2 2 (pos 0) 0 true)) 16
       (objectStep (Arrive 1) ∷ stepOn 0 24 (Arrive 1) ∷ []) (Accepted 2097154 false 0 ∷ Accepted 3145730 false 0 ∷ [])
   -- 8: a noComplete step; an expectation alone, which completes no phase
   pub noComplete : Needed 8 single 16 (objectStep (ArriveNoComplete 1) ∷ []) (Refused 17 ∷ [])
@@ -114,18 +105,18 @@ pub record Tight : Type 0 where
   pub noSuchWarp : Needed 10 single 16 (stepOn 2 16 (Arrive 1) ∷ []) (Refused 4 ∷ [])
   pub notReady : Needed 10 (record { block = without (freshBlock 2) 1; objects = single .objects }) 16 (stepOn 1 16 (Arrive 1) ∷ []) (Refused 5 ∷ [])
   -- 11: fewer counts than are pending; more
-  pub fewerCounts : Needed 11 (tablesOf (liveRow 2 2 (pos 0) 0 true)) 16 (objectStep (Arrive 1) ∷ []) (Accepted 2097154 false 0 ∷ [])
+  pub fewerCounts : Needed 11 (withObject (liveRow 2 2 (pos 0) 0 true)) 16 (objectStep (Arrive 1) ∷ []) (Accepted 2097154 false 0 ∷ [])
   pub moreCounts : Needed 11 single 16 (objectStep (Arrive 1) ∷ objectStep (Arrive 1) ∷ []) (Accepted 2097153 true 0 ∷ Refused 16 ∷ [])
   -- 12: more completions than transactions and expectations; fewer
   pub moreCompletions : Needed 12 single 16 (objectStep (Arrive 1) ∷ objectStep (Complete 5) ∷ []) (Accepted 2097153 true 0 ∷ Accepted 0 false 0 ∷ [])
   pub fewerCompletions : Needed 12 single 16 (objectStep (ArriveExpect 5) ∷ []) (Accepted 2097153 false 0 ∷ [])
   -- 13: as many drops as are expected
-  pub drops : Needed 13 (tablesOf (liveRow 2 2 (pos 0) 0 true)) 16 (objectStep (Drop 1) ∷ objectStep (Drop 1) ∷ []) (Accepted 2097154 false 0 ∷ Refused 14 ∷ [])
+  pub drops : Needed 13 (withObject (liveRow 2 2 (pos 0) 0 true)) 16 (objectStep (Drop 1) ∷ objectStep (Drop 1) ∷ []) (Accepted 2097154 false 0 ∷ Refused 14 ∷ [])
   -- 14: expectations of 1,048,576, with the transaction count at -1
-  pub expectations : Needed 14 (tablesOf (liveRow 1 1 (negsuc 0) 0 true)) 16 (objectStep (Complete 1048575) ∷ objectStep (ArriveExpect 1048576) ∷ [])
+  pub expectations : Needed 14 (withObject (liveRow 1 1 (negsuc 0) 0 true)) 16 (objectStep (Complete 1048575) ∷ objectStep (ArriveExpect 1048576) ∷ [])
       (Refused 15 ∷ Accepted 2097153 false 0 ∷ [])
   -- 15: completions of 1,048,576, with the transaction count at 1
-  pub completions : Needed 15 (tablesOf (liveRow 1 1 (pos 1) 0 true)) 16 (objectStep (ArriveExpect 1048575) ∷ objectStep (Complete 1048576) ∷ [])
+  pub completions : Needed 15 (withObject (liveRow 1 1 (pos 1) 0 true)) 16 (objectStep (ArriveExpect 1048575) ∷ objectStep (Complete 1048576) ∷ [])
       (Refused 15 ∷ Accepted 0 false 0 ∷ [])
 
 -- ---- what follows from the others

@@ -16,8 +16,8 @@ use Rattle.object.specs.declared.Object as row
 use Rattle.object.specs.Row.{dead}
 use Rattle.block.specs.declared.Verdict.{Verdict}
 use Rattle.block.specs.declared.Verdict.the-variants.{Refused, Accepted}
-use Rattle.tables.specs.Tables.{Tables, freshTables}
-use Rattle.tables.specs.Effect.{verdict, after}
+use Rattle.tables.specs.Tables.{freshTables, freshTally}
+use Rattle.tables.specs.Effect.{verdict, after, run}
 
 -- ---- steps, in short
 
@@ -47,11 +47,6 @@ pub record Strike : Type 0 where
   pub says : Verdict
   pub leaves : row.Object
 
--- the tables after all of these steps
-abbrev pub afterAll : Tables → List Step → Tables
-afterAll t [] = t
-afterAll t (s ∷ l) = afterAll (after t s) l
-
 -- what is answered, and the row
 abbrev pub Outcome : Type 0
 Outcome = Verdict × row.Object
@@ -59,7 +54,7 @@ Outcome = Verdict × row.Object
 -- what comes out
 abbrev pub outcome : Strike → Outcome
 outcome k =
-    let t = afterAll (freshTables (k .warps)) (k .before) in
+    let t = run (record { tables = freshTables (k .warps); tally = freshTally }) (k .before) .tables in
     (verdict t (k .last), getD (after t (k .last) .objects) 2 dead)
 
 -- what the strike says
