@@ -36,12 +36,10 @@ KINDS = (
     Kind(0x13, "mbarrier.arrive_drop.noComplete", ("address", "count"), "token"),
 )
 
-# The bytes of each field. In front of them are the kind and the warp, one byte each.
 WIDTH = {"barrier": 1, "selector": 1, "threads": 2, "address": 2, "count": 4, "transactions": 4, "mask": 4, "token": 8,
-         "parity": 1}
+         "parity": 1}  # the bytes of each field; in front of them are the kind and the warp, one byte each
 BY_BYTE: Dict[int, Kind] = {kind.byte: kind for kind in KINDS}
 SIZE: Dict[int, int] = {kind.byte: 2 + sum(WIDTH[field] for field in kind.fields) for kind in KINDS}
-
 REDUCTIONS = ("popc", "and", "or")  # selectors 0, 1, 2
 COMPLEMENT = 4                      # added to a selector by !
 
@@ -50,11 +48,11 @@ A text looks like this:
 
     warps 2                            # the block has two warps
     w0: mbarrier.init [16], 3
-    w0: barrier.sync 0                 # for all threads
-    w1: barrier.arrive 1, 64           # for 64 threads
     w0: mbarrier.arrive.expect_tx [16], 64
     w0: mbarrier.test_wait [16], token(0, 16, 3)   # phase, address, pending
-    w0: barrier.red.popc 2, !0x00ff    # ! complements the lane mask
+    w0: barrier.arrive 1, 64           # for 64 threads
+    w1: barrier.sync 1, 64
+    w0: barrier.red.popc 2, !0x00ff    # for all threads; ! complements the lane mask
 
 It is UTF-8, a statement to a line. Numbers are decimal or hex. A value that the checker
 refuses can be written as long as it fits its field; a selector without a name is
@@ -63,7 +61,6 @@ also stand in place of `warps N`, for a number of warps that no block has.
 
 Steps:
 """
-
 NUMBER = re.compile(r"0[xX][0-9a-fA-F]+|[0-9]+")
 STEP = re.compile(r"w([0-9]+)\s*:\s*(\S+)\s*(.*)")
 TOKEN = re.compile(r"token\s*\((.*)\)")
@@ -152,7 +149,8 @@ def selector(name: str, complemented: bool) -> int:
 
 def step_bytes(warp: str, name: str, texts: List[str]) -> bytes:
     """The bytes of one step."""
-    values, plain = {}, name
+    values: Dict[str, int] = {}
+    plain = name
     if name.startswith("barrier.red."):
         complemented = bool(texts) and texts[-1].startswith("!")
         values["selector"], plain = selector(name, complemented), "barrier.red"
@@ -196,7 +194,7 @@ def why_no_text(data: bytes) -> str:
     bad = NO_TEXT.search(text)
     if not bad:
         return ""
-    if 1 <= data[0] <= MOST_WARPS and (len(data) == 1 or data[1] in BY_BYTE):
+    if 1 <= data[0] <= MOST_WARPS and (len(data) == 1 or data[1] in BY_BYTE) and not data[:2].isspace():
         return ": This is no text; it looks like a trace, and `glubotar show` shows one."
     line = len(LINE_END.split(text[:bad.start()]))
     return f":{line}: This is no text: no text in UTF-8 has the byte 0x{ord(bad[0]) % 256:02x} here."
@@ -207,7 +205,8 @@ def asm(text: bytes, name: str) -> Tuple[bytes, List[str]]:
     why = why_no_text(text)
     if why:
         return b"", [name + why]
-    out, complaints, first = bytearray(), [], True
+    complaints: List[str] = []
+    out, first = bytearray(), True
     for line, whole in enumerate(LINE_END.split(text.decode()), 1):
         code = whole.partition("#")[0].strip()
         if not code:
@@ -274,7 +273,8 @@ def show(data: bytes, numbered: bool = False) -> str:
     """The text of any bytes."""
     if not data:
         return "# an empty trace: not even the number of warps is there\n"
-    lines, whole = [], list(steps(data))
+    lines: List[str] = []
+    whole = list(steps(data))
     if len(data) > MOST_BYTES:
         lines.append(f"# {len(data):,} bytes: the checker refuses more than {MOST_BYTES:,} as too long (21)")
     place, why = 0, f"{data[0]} is no number of warps, which is 1 to {MOST_WARPS}"

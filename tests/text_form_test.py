@@ -225,11 +225,12 @@ class Errors(unittest.TestCase):
         self.only(b"\xfe\xff\0w", "t: The text begins with a byte-order mark; save it as UTF-8 without one.")
 
     def test_a_trace_in_place_of_a_text(self):
-        for data in (b"\1", b"\2\2\0\3\2\1\3", b"\x20\x0a\xff\xff", asm("warps 1\nw0: mbarrier.init [16], 3")):
+        for data in (b"\1", b"\2\2\0\3\2\1\3", b"\x20\x07\xff\xff", asm("warps 1\nw0: mbarrier.init [16], 3")):
             self.only(data, "t: This is no text; it looks like a trace, and `glubotar show` shows one.")
 
     def test_bytes_of_no_text(self):
-        for text, line, byte in ((b"warps 1\n# f\xfcr\nw0: nothing", 2, "fc"), (b"warps 1\0", 1, "00"),
+        for text, line, byte in ((b"warps 1\n# f\xfcr\nw0: nothing", 2, "fc"), (b"\n\n# \xfc", 3, "fc"),
+                                 (b"warps 1\0", 1, "00"),
                                  (b"warps 1\r\n\r\n\x1b[0m", 3, "1b"), (b"warps 1\n\x7f", 2, "7f"),
                                  (b"# \xc2\x9b", 1, "9b"), (b"# \xe2\x82", 1, "e2"), (b"\xff\0", 1, "ff")):
             self.only(text, f"t:{line}: This is no text: no text in UTF-8 has the byte 0x{byte} here.")
