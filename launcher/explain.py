@@ -3,9 +3,15 @@ import re
 import textwrap
 from typing import Collection, Dict, Iterator, List, NamedTuple, Sequence, Tuple
 
-from launcher.sentences import said_of
-from launcher.text_form import BY_BYTE, COMPLEMENT, MOST_BYTES, MOST_WARPS, REDUCTIONS, SIZE, byte_text, step_text, \
-    steps, token_text, values_of
+from launcher.checker import LONGEST_TRACE, Answer, Checker, Processes
+from launcher.kinds import BY_BYTE, COMPLEMENT, MOST_BYTES, MOST_WARPS, REDUCTIONS, SIZE, steps, values_of
+from launcher.names import Names, said
+from launcher.options import Options
+from launcher.project import Project
+from launcher.report import Conclusion, Total
+from launcher.sentences import read_refusals, said_of
+from launcher.streams import Failure, Output, read_file, reason
+from launcher.text_form import byte_text, step_text, token_text
 
 LINE = re.compile(r"([0-9]+) (?:ok ([0-9]+) ([01]) ([0-9a-f]{8})|no ([0-9]+))")
 END = re.compile(r"end ([0-9]+) ([0-9]+)")
@@ -202,3 +208,29 @@ def explained(name: str, trace: bytes, text: bytes, sentences: Dict[int, Tuple[s
     if rest:
         lines += unread_text(verdicts[-1], rest, sentences)
     return "\n".join(lines + conclusion(verdicts, warps)) + "\n"
+
+
+def explain(options: Options, output: Output, root: str) -> int:
+    """Explains every trace that is named. What is explained is read once, and what the checker is given is that."""
+    names = Names(options.words).names or [b"-"]
+    sentences = read_refusals(root)
+    checker = Checker(Project(root).command(), Processes(), True)
+    summary, total = Conclusion(), Total()
+    for name in names:
+        try:
+            trace = read_file(name, LONGEST_TRACE + 1)
+        except OSError as error:
+            answer = Answer(name, fault=reason(error))
+        else:
+            answer = checker.answer_bytes(name, trace)
+            try:
+                text = explained(said(name), trace, answer.text, sentences, options.all)
+            except ValueError as error:
+                raise Failure(str(error)) from None
+            output.write(text.encode("utf-8", "surrogateescape"))
+        summary.add(answer, lambda _: False)
+        total.add(answer)
+        output.flush()
+    output.close()
+    summary.say()
+    return total.status()

@@ -1,0 +1,2 @@
+"""The launcher of Glubotar: finds or builds the checker, runs it over traces, and reports what it said."""
+VERSION = "1.0.0"  # include/glubotar.h has it too

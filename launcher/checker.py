@@ -1,0 +1,232 @@
+"""Running the checker over traces: in groups, some side by side, each trace answered in its turn."""
+from __future__ import annotations
+
+import codecs
+import contextlib
+import fcntl
+import os
+import subprocess
+import threading
+from collections.abc import Iterator
+
+from launcher.names import said
+from launcher.signals import held
+from launcher.streams import Failure, read_file, reason
+
+GROUP_TRACES = 1024  # in one process
+KEPT_TRACES = 64     # the same where all lines are kept until it is their turn
+GROUP_BYTES = 65536  # of names in one process, below what any command line holds
+LONGEST_NAME = 4095  # no file has a longer one
+LONGEST_TRACE = 65536
+INPUT = b"-"
+SET_PIPE_SIZE, CHUNK = 1031, 1 << 18  # Linux's number, which older Pythons don't name; bytes that are read at a time
+TEXT_CONTROL = set(range(32)) - set(b"\t\n\f\r")  # bytes that no text has
+
+
+class Answer:
+    """What the checker said of one trace."""
+    __slots__ = ("name", "accepted", "refused", "first", "fault", "text")
+
+    def __init__(self, name: bytes, accepted: int = 0, refused: int = 0, first: tuple[int, int] | None = None,
+                 fault: str = "", text: bytes = b"") -> None:
+        self.name = name
+        self.accepted, self.refused = accepted, refused  # steps
+        self.first = first  # the first refused step and the number that refuses it
+        self.fault = fault  # why the trace can't be read, or nothing
+        self.text = text    # the checker's lines, where they are asked for
+
+
+class Processes:
+    """The processes that run now. Once it is closed they are gone, and no other is started."""
+
+    def __init__(self) -> None:
+        self.running: set[subprocess.Popen[bytes]] = set()
+        self.closed = False
+        self.guard = threading.Lock()
+
+    def start(self, words: list[bytes], given: bool) -> subprocess.Popen[bytes]:
+        """A command whose output is read here, and whose input is given here or is this process's own."""
+        with held(), self.guard:
+            if self.closed:
+                raise Failure("interrupted")
+            try:
+                process = subprocess.Popen(words, stdin=subprocess.PIPE if given else None, stdout=subprocess.PIPE,
+                                           close_fds=False)  # a name may be /dev/fd/N
+            except OSError as error:
+                raise Failure(f"the checker can't be started: {reason(error)}") from None
+            self.running.add(process)
+            return process
+
+    @contextlib.contextmanager
+    def started(self, words: list[bytes], given: bool = False) -> Iterator[subprocess.Popen[bytes]]:
+        """The same; at the end of the block it is gone, whatever happened."""
+        process = self.start(words, given)
+        try:
+            yield process
+        except BaseException:
+            process.kill()
+            raise
+        finally:
+            process.wait()
+            with self.guard:
+                self.running.discard(process)
+
+    def close(self) -> None:
+        with self.guard:
+            self.closed = True
+            for process in self.running:
+                process.kill()
+
+
+class Checker:
+    def __init__(self, command: list[str], processes: Processes, keep_text: bool) -> None:
+        self.command = [os.fsencode(word) for word in command]
+        self.processes = processes
+        self.keep_text = keep_text
+
+    def answers(self, names: list[bytes], jobs: int) -> Iterator[list[Answer]]:
+        """The answers to all traces, in their order, group by group. Fails where one is missing."""
+        groups = grouped(names, jobs, KEPT_TRACES if self.keep_text else GROUP_TRACES)
+        if jobs == 1 or len(groups) == 1:
+            yield from map(self.answer_group, groups)
+            return
+        from launcher.side_by_side import in_order
+        try:
+            yield from in_order(self.answer_group, groups, jobs)
+        finally:
+            self.processes.close()
+
+    def answer_group(self, names: list[bytes]) -> list[Answer]:
+        """The answers to some traces by one process, read as they come. All that it prints belongs to one of them."""
+        if len(names[0]) > LONGEST_NAME:
+            return [Answer(names[0], fault="its name is too long")]
+        answers: list[Answer] = []
+        rest = b""
+        with self.processes.started(self.command + [name for name in names if name != INPUT]) as process:
+            for chunk in chunks(process):
+                rest = self.take_answers(names, answers, rest + chunk)
+        if names == [INPUT] and not answers and not rest and process.returncode == 0:
+            return [Answer(INPUT, fault=why_unreadable(INPUT))]
+        if len(answers) < len(names) or rest or process.returncode != 0:
+            raise broke_off(names[min(len(answers), len(names) - 1)])
+        return answers
+
+    def answer_bytes(self, name: bytes, trace: bytes) -> Answer:
+        """The answer to the bytes of a trace."""
+        with self.processes.started(self.command, given=True) as process:
+            text, _ = process.communicate(trace)
+        answer, after = self.take_text(name, text, 0)
+        if answer is None or after != len(text) or process.returncode != 0:
+            raise broke_off(name)
+        return answer
+
+    def take_answers(self, names: list[bytes], answers: list[Answer], output: bytes) -> bytes:
+        """Adds the answers that stand whole in some output, and gives back what is left of it."""
+        at = 0
+        while len(answers) < len(names):
+            name = names[len(answers)]
+            head = b"" if name == INPUT else b"file %s\n" % name
+            answer = None
+            if output.startswith(head, at):
+                answer, after = self.take_text(name, output, at + len(head))
+            elif output.startswith(b"unreadable %s\n" % name, at):
+                answer, after = Answer(name, fault=why_unreadable(name)), at + len(name) + 12
+            if answer is None:
+                break
+            answers.append(answer)
+            at = after
+        return output[at:]
+
+    def take_text(self, name: bytes, output: bytes, start: int) -> tuple[Answer | None, int]:
+        """The answer whose lines begin at a place, if they stand there whole, and the place after them."""
+        end = start if output.startswith(b"end ", start) else output.find(b"\nend ", start) + 1
+        after = output.find(b"\n", end) + 1
+        words = output[end:after].split(b" ")
+        if words[0] != b"end" or len(words) != 3:
+            return None, start
+        accepted, refused = number(words[1]), number(words[2][:-1])
+        if accepted + refused != lines_between(output, start, end):
+            raise Failure(f"the checker's lines don't add up for {said(name)}")
+        first = first_refused(output, start, end) if refused else None
+        text = output[start:after] if self.keep_text else b""
+        return Answer(name, accepted, refused, first, "", text), after
+
+
+def chunks(process: subprocess.Popen[bytes]) -> Iterator[bytes]:
+    """What a process prints, in pieces."""
+    assert process.stdout
+    with process.stdout as output:
+        with contextlib.suppress(OSError):
+            fcntl.fcntl(output.fileno(), SET_PIPE_SIZE, CHUNK)  # it waits less often for its reader
+        while True:
+            chunk = os.read(output.fileno(), CHUNK)
+            if not chunk:
+                return
+            yield chunk
+
+
+def number(word: bytes) -> int:
+    if not word.isdigit():
+        raise Failure("the checker prints what is no number: " + said(word))
+    return int(word)
+
+
+def lines_between(output: bytes, start: int, end: int) -> int:
+    """How many lines stand between two places: they are numbered from 1 on, or the only one is 0."""
+    if start == end:
+        return 0
+    last = max(output.rfind(b"\n", start, end - 1) + 1, start)
+    return number(output[last:output.find(b" ", last)]) or 1
+
+
+def first_refused(output: bytes, start: int, end: int) -> tuple[int, int]:
+    """The step and the number of the first line `N no R` between two places."""
+    at = output.find(b" no ", start, end)
+    if at < 0:
+        raise Failure("the checker counts a refused step and shows none")
+    line = max(output.rfind(b"\n", start, at) + 1, start)
+    return number(output[line:at]), number(output[at + 4:output.find(b"\n", at)])
+
+
+def broke_off(name: bytes) -> Failure:
+    return Failure(f"the checker broke off at {said(name)}")
+
+
+def why_unreadable(name: bytes) -> str:
+    try:
+        if name == INPUT:
+            os.read(0, 0)
+        else:
+            read_file(name, 1)
+    except OSError as error:
+        return reason(error)
+    return "it couldn't be read just now"
+
+
+def looks_like_text(answer: Answer) -> bool:
+    """Whether a trace that was refused at its very start is a text: some thousand bytes without one that no text has."""
+    if answer.first not in ((0, 4), (1, 1), (0, 21)) or answer.name == INPUT:
+        return False
+    try:
+        start = read_file(answer.name, 4096)
+        codecs.getincrementaldecoder("utf-8")().decode(start)  # its last letter may be cut
+    except (OSError, UnicodeDecodeError):
+        return False
+    return not TEXT_CONTROL.intersection(start)
+
+
+def grouped(names: list[bytes], jobs: int, most: int) -> list[list[bytes]]:
+    """Groups of traces in their order: four to a job, so that none is idle for long at the end. Standard input, and a name that
+    no file can have, stand alone."""
+    most = min(most, (len(names) - 1) // (4 * jobs) + 1)
+    groups: list[list[bytes]] = []
+    size = 0
+    alone = True
+    for name in names:
+        was_alone, alone = alone, name == INPUT or len(name) > LONGEST_NAME
+        if alone or was_alone or len(groups[-1]) == most or size + len(name) > GROUP_BYTES:
+            groups.append([])
+            size = 0
+        groups[-1].append(name)
+        size += len(name) + 1
+    return groups

@@ -1,0 +1,81 @@
+"""The forms of output that other programs read: JSON, an object to a line, and JUnit's XML for a CI server."""
+from __future__ import annotations
+
+import json
+import os
+from typing import Any
+from xml.sax.saxutils import escape, quoteattr
+
+from launcher.checker import Answer
+from launcher.names import said
+from launcher.report import PLAIN, SUMMARY, Report, Total
+from launcher.sentences import said_of
+from launcher.streams import Output
+
+
+def warps_of(mask: int) -> list[int]:
+    return [warp for warp in range(32) if mask >> warp & 1]
+
+
+def step_of(line: bytes) -> dict[str, Any]:
+    """A line `N ok V D M` or `N no R` as an object."""
+    words = line.split()
+    if words[1] == b"no":
+        return {"step": int(words[0]), "ok": False, "refusal": int(words[2])}
+    return {"step": int(words[0]), "ok": True, "value": int(words[2]), "done": words[3] == b"1",
+            "released": warps_of(int(words[4], 16))}
+
+
+class Json(Report):
+    """Names are exact: a byte that is no UTF-8 is U+DC80 to U+DCFF, as Python has it."""
+
+    def __init__(self, output: Output, form: str) -> None:
+        self.output, self.form = output, form
+
+    def put(self, value: dict[str, Any]) -> None:
+        self.output.write(json.dumps(value).encode() + b"\n")
+
+    def add(self, answer: Answer) -> None:
+        value: dict[str, Any] = {"trace": os.fsdecode(answer.name)}
+        if answer.fault:
+            self.put({**value, "unreadable": answer.fault})
+            return
+        value.update(accepted=answer.accepted, refused=answer.refused, first=None)
+        if answer.first:
+            value["first"] = {"step": answer.first[0], "refusal": answer.first[1]}
+        if self.form != SUMMARY:
+            value["steps"] = [step_of(line) for line in answer.text.splitlines()[:-1]]
+        self.put(value)
+
+    def end(self, total: Total) -> None:
+        if self.form != PLAIN:
+            self.put({"total": {"traces": total.traces, "accepted": total.accepted, "refused": total.refused,
+                                "unreadable": total.unreadable, "traces_refused": total.failed}})
+
+
+class Junit(Report):
+    """A test case for each trace: refused steps are a failure, and a trace that can't be read is an error."""
+
+    def __init__(self, output: Output, form: str, sentences: dict[int, tuple[str, str]]) -> None:
+        self.output, self.form, self.sentences = output, form, sentences
+        self.cases: list[str] = []
+
+    def add(self, answer: Answer) -> None:
+        inside = ""
+        if answer.fault:
+            inside = f"<error message={quoteattr('unreadable: ' + answer.fault)}/>"
+        elif answer.first:
+            step, number = answer.first
+            message = f"step {step} is refused by {number}: {said_of(step, self.sentences[number][0])}"
+            count = f"{answer.refused} of {answer.accepted + answer.refused} steps are refused"
+            inside = f'<failure type="{number}" message={quoteattr(message)}>{count}</failure>'
+        if self.form != SUMMARY and answer.text:
+            inside += f"<system-out>{escape(answer.text.decode())}</system-out>"
+        # XML has no sign for a byte that is no UTF-8
+        name = quoteattr(said(answer.name).encode("utf-8", "backslashreplace").decode())
+        self.cases.append(f'<testcase classname="glubotar" name={name}>{inside}</testcase>\n')
+
+    def end(self, total: Total) -> None:
+        head = (f'<?xml version="1.0" encoding="UTF-8"?>\n<testsuite name="glubotar" tests="{total.traces}" '
+                f'failures="{total.failed}" errors="{total.unreadable}">\n')
+        self.output.write((head + "".join(self.cases) + "</testsuite>\n").encode())

@@ -1,0 +1,304 @@
+"""Tests of ./glubotar with a kit and a checker made for the purpose: the build, break-offs and interrupts. A trace is a script
+that prints the checker's lines."""
+import hashlib  # noqa: F401 (used by the launcher where permissions apply, and they keep Python from reading it then)
+import os
+import pathlib
+import resource
+import shutil
+import signal
+import subprocess
+import time
+import unittest
+
+from launching import ROOT, Launching, limits, permissions, row, total
+from launcher import project
+from launcher.build import build_once
+from launcher.streams import Failure
+
+MACHINE = os.uname().machine
+PROGRAM = """#!/bin/sh
+all=$*
+[ ${#all} -le 102400 ] || exit 3
+for name; do
+    echo "file $name"
+    . "./$name"
+done
+"""
+LOADER = """#!/bin/sh
+[ "$1" = --library-path ] && shift 2 && exec "$@"
+"""
+RT = """#!/bin/sh
+[ "$*" != doc ] || exec echo '{kit}/docs/START-HERE.md'
+[ "$*" = 'check glubotar' ] && [ -f crates.txt ] || exit 2
+. '{kit}/check'
+"""
+
+
+class WithKit(Launching):
+    def setUp(self):
+        super().setUp()
+        self.kit = self.work / "the kit"
+        self.repository = self.work / "the repository"
+        shutil.copytree(ROOT / "launcher", self.repository / "launcher", ignore=shutil.ignore_patterns("__pycache__"))
+        shutil.copy(ROOT / "glubotar", self.repository)
+        (self.repository / "crates/glubotar/must-fail").mkdir(parents=True)
+        (self.repository / "crates.txt").write_text("walks:\nfolds:\ntext: folds\nglubotar: text walks io\nother: folds\n")
+        (self.repository / "crates/glubotar/main.rt").write_text("source\n")
+        self.launcher = self.repository / "glubotar"
+        self.target = self.repository / "target"
+        self.script(self.kit / "program", PROGRAM)
+        self.script(self.kit / "on" / MACHINE / "toolchain/lib/ld-linux-x86-64.so.2", LOADER)
+        self.script(self.kit / "bin/rt", RT.format(kit=self.kit))
+        self.environment["PATH"] = f"{self.kit}/bin:{os.environ['PATH']}"
+        self.builds = f"mkdir -p target/bin; cp '{self.kit}/program' target/bin/glubotar"
+        self.rt_does(self.builds)
+        self.trace("plain", "echo end 0 0")
+
+    def script(self, path, text):
+        path.parent.mkdir(parents=True, exist_ok=True)
+        path.write_text(text)
+        path.chmod(0o755)
+
+    def rt_does(self, text):
+        (self.kit / "check").write_text(text + "\n")
+
+    def trace(self, name, text):
+        (self.work / name).write_text(text + "\n")
+        return name
+
+    def go(self, *words, **others):
+        return self.run_it(*words, cwd=self.work, **others)
+
+    def awaited(self, test):
+        for _ in range(200):
+            if test():
+                return True
+            time.sleep(0.05)
+        return False
+
+
+BUILT = "glubotar: building the checker; it is proved first"
+PLAIN = b"end 0 0\n"
+
+
+class Build(WithKit):
+    def test_rt_is_missing(self):
+        (self.kit / "bin/rt").unlink()
+        self.environment["PATH"] = "/nowhere"
+        self.due(self.go("plain"), 2, b"", "needs rt of the Rattle kit, and that is not on the PATH")
+
+    def test_a_failed_build_shows_the_end_of_its_log(self):
+        self.rt_does("for i in $(seq 100); do echo line $i; done; echo no proof >&2; exit 1")
+        ran = self.go("plain")
+        log = self.target / "build.log"
+        self.due(ran, 2, b"", BUILT, f"glubotar: the build failed; its log is {log}, which ends so:\n  line 82\n", "  line 100\n  no proof\n")
+        self.assertNotIn("line 81\n", ran.err)
+        self.assertEqual(len(log.read_text().splitlines()), 101)
+
+    def test_a_build_that_leaves_nothing_of_use(self):
+        self.rt_does("true")
+        self.due(self.go("plain"), 2, b"", BUILT, "the build left no ")
+        self.rt_does(self.builds + "; exit 1")
+        self.due(self.go("plain"), 2, b"", BUILT, "the build failed")
+        self.rt_does(self.builds + "; kill -9 $$")
+        self.due(self.go("plain"), 2, b"", BUILT, "the build failed")
+        self.rt_does(self.builds + "; echo more >crates/glubotar/main.rt")
+        self.due(self.go("plain"), 2, b"", BUILT, "the sources changed while the checker was built")
+        self.rt_does(self.builds)
+        self.due(self.go("plain"), 0, PLAIN, BUILT)
+
+    def test_a_build_where_nothing_can_be_written(self):
+        full = limits(resource.RLIMIT_FSIZE, 0)
+        self.due(self.go("plain", preexec_fn=full), 2, b"", "glubotar: no temporary folder can be made: ")
+        self.due(self.go("plain"), 0, PLAIN, BUILT)
+
+    def test_once_and_by_content(self):
+        self.due(self.go("plain"), 0, PLAIN, BUILT)
+        self.due(self.go("plain"), 0, PLAIN)
+        self.rt_does("exit 1")  # no build, or it fails
+        (self.repository / "crates/glubotar/must-fail/wrong.edit").write_text("edit\n")
+        self.due(self.go("plain"), 0, PLAIN)
+        for place in [self.repository / "crates.txt", *self.repository.glob("crates/**/*"), *self.target.glob("checker/*")]:
+            os.utime(place, (1, 1))
+        self.due(self.go("plain"), 0, PLAIN)
+        moved = self.work / "moved"
+        self.repository.rename(moved)
+        self.launcher = moved / "glubotar"
+        self.due(self.go("plain"), 0, PLAIN)
+
+    def test_each_change_builds(self):
+        self.due(self.go("plain"), 0, PLAIN, BUILT)
+        main = self.repository / "crates/glubotar/main.rt"
+        stamps = main.stat()
+
+        def same_size_and_time():
+            main.write_text("sourcE\n")
+            os.utime(main, ns=(stamps.st_atime_ns, stamps.st_mtime_ns + 1))
+
+        changes = {
+            "crates.txt": lambda: (self.repository / "crates.txt").write_text("glubotar: folds\n"),
+            "a source": same_size_and_time,
+            "a new file": lambda: (self.repository / "crates/glubotar/new.rt").write_text(""),
+            "a file less": lambda: (self.repository / "crates/glubotar/new.rt").unlink(),
+            "a new name": lambda: main.rename(main.with_name("other.rt")),
+            "the checker cut": lambda: (self.target / "checker/program").write_text("#!/bin/sh\n"),
+            "the checker gone": lambda: (self.target / "checker/program").unlink(),
+            "the record gone": lambda: (self.target / "checker/sources").unlink(),
+            "the record cut": lambda: (self.target / "checker/sources").write_text("0"),
+            "all gone": lambda: shutil.rmtree(self.target),
+        }
+        for name, change in changes.items():
+            with self.subTest(change=name):
+                change()
+                self.due(self.go("plain"), 0, PLAIN, BUILT)
+                self.due(self.go("plain"), 0, PLAIN)
+
+    def test_a_read_only_folder(self):
+        self.due(self.go("plain"), 0, PLAIN, BUILT)
+        main = self.repository / "crates/glubotar/main.rt"
+        here = project.Project(str(self.repository))
+        with permissions():
+            self.assertTrue(here.is_built())
+        os.utime(main, (1, 1))
+        with permissions():
+            self.assertTrue(here.is_built())
+        main.write_text("other\n")
+        (self.target / "building.lock").chmod(0o444)
+        with permissions(), self.assertRaises(Failure) as said:
+            self.assertFalse(here.is_built())
+            build_once(here)
+        self.assertIn(f"the checker has to be built, and can't be in {self.repository}: not allowed", str(said.exception))
+
+    def test_two_at_once_build_once(self):
+        note = self.work / "builds"
+        self.rt_does(f"echo once more >>'{note}'; sleep 1; {self.builds}")
+        with subprocess.Popen(self.words("plain"), cwd=self.work, env=self.environment, stdout=subprocess.PIPE,
+                              stderr=subprocess.DEVNULL) as other:
+            self.assertTrue(self.awaited(note.exists))
+            second = subprocess.run(self.words("plain"), cwd=self.work, env=self.environment, capture_output=True, check=False)
+            self.assertEqual((second.returncode, second.stdout, second.stderr),
+                             (0, PLAIN, b"glubotar: another run builds the checker; waiting\n"))
+            self.assertEqual((other.communicate()[0], other.returncode), (PLAIN, 0))
+        self.assertEqual(note.read_text(), "once more\n")
+
+
+class Checkers(WithKit):
+    def setUp(self):
+        super().setUp()
+        self.go("plain")
+
+    def test_side_by_side_and_in_order(self):
+        # Each of two traces ends well once the other has begun, the first one later.
+        def meet(own, other):
+            return (f": >{own}.begun; for i in 1 2 3 4 5 6 7 8 9; do [ -e {other}.begun ] || sleep 0.5; done; "
+                    f"[ -e {other}.begun ] || exit")
+        self.trace("one", meet("one", "two") + "; sleep 0.5; echo 1 ok; echo end 1 0")
+        self.trace("two", meet("two", "one") + "; echo 2 ok; echo end 2 0")
+        self.due(self.go("--jobs", "2", "one", "two"), 0, row("one", 1, 0, "-") + row("two", 2, 0, "-") + total(2, 3, 0, 0, 0))
+
+    def test_long_names_make_short_command_lines(self):
+        name = "./" * 1900 + "plain"
+        listed = self.file("list", f"{name}\n".encode() * 200)
+        self.due(self.go("--jobs", "1", "--from", listed), 0, row(name, 0, 0, "-") * 200 + total(200, 0, 0, 0, 0))
+
+    def test_a_checker_that_dies_at_trace_k(self):
+        for how in ("echo 1 ok 0 0 00000000; exit 0", "exit 0", "kill -KILL $$", "echo 1 ok 0 0 00000000; echo end 1 0; exit 1"):
+            self.trace("broken", how)
+            for jobs in ("1", "3"):
+                for k in (0, 1, 7, 19):
+                    with self.subTest(how=how, jobs=jobs, k=k):
+                        names = ["plain"] * k + ["broken"] + ["plain"] * (19 - k)
+                        ran = self.go("--jobs", jobs, *names)
+                        self.assertEqual(ran.status, 2)
+                        self.assertRegex(ran.err, "glubotar: the checker broke off at (broken|plain)\n")
+                        self.assertNotIn(b"broken\t0", ran.out)
+                        self.assertNotIn(b"total", ran.out)
+        self.trace("broken", "echo 1 ok 0 0 00000000; exit 0")
+        self.due(self.go("--jobs", "1", "plain", "broken", "plain"), 2, row("plain", 0, 0, "-"), "the checker broke off at broken\n")
+        self.trace("broken", "kill -KILL $$")
+        self.due(self.go("broken"), 2, b"", "glubotar: the checker broke off at broken\n")
+
+    def test_a_checker_that_says_something_else(self):
+        for name, text in {"more": "echo end 0 0; echo end 0 0", "another": "echo unreadable plain", "lines lost": "echo 1 ok; echo end 2 0",
+                           "no numbers": "echo 1 ok; echo end one 0", "no refusal": "echo 1 ok; echo end 0 1", "nothing": "true"}.items():
+            with self.subTest(says=name):
+                self.trace("odd", text)
+                for words in (["odd"], ["odd", "plain"], ["plain", "odd"]):
+                    ran = self.go("-j1", *words)
+                    self.assertEqual((ran.status, ran.out.count(b"odd\t")), (2, 0))
+                    self.assertIn("glubotar: the checker", ran.err)
+
+    def test_a_checker_that_cannot_be_started(self):
+        loader = self.target / "checker/ld-linux-x86-64.so.2"
+        loader.chmod(0o644)
+        self.assertEqual(self.go("plain").status, 2)
+
+
+class Interrupts(WithKit):
+    def interrupt(self, number, *words):
+        """Interrupts a run while processes that noted their numbers hang; they have to be gone then."""
+        hanging = self.work / "hanging"
+        hanging.unlink(missing_ok=True)
+        process = subprocess.Popen(self.words(*words), cwd=self.work, env=self.environment, stdout=subprocess.PIPE,
+                                   stderr=subprocess.PIPE, preexec_fn=lambda: number == signal.SIGKILL or
+                                   signal.signal(number, signal.SIG_DFL))
+        self.assertTrue(self.awaited(lambda: hanging.exists() and hanging.read_text().endswith("\n")))
+        process.send_signal(number)
+        out, err = process.communicate()
+        numbers = [int(line) for line in hanging.read_text().split()]
+        self.assertTrue(self.awaited(lambda: not any(map(is_there, numbers))), "it left a process")
+        return process.returncode, out, err
+
+    def test_a_run(self):
+        self.go("plain")
+        self.trace("hanging_trace", f"echo $$ >>'{self.work}/hanging'; exec sleep 60")
+        for number in (signal.SIGHUP, signal.SIGINT, signal.SIGTERM):
+            for words in (["hanging_trace"], ["--jobs", "2", *["hanging_trace"] * 3], ["-j1", "plain", "hanging_trace"]):
+                with self.subTest(signal=number, words=words):
+                    status, out, err = self.interrupt(number, *words)
+                    self.assertEqual((status, err), (-number, b""))
+                    self.assertNotIn(b"total", out)
+                    self.assertEqual(os.listdir(self.scratch), [])
+
+    def test_a_build(self):
+        self.rt_does(f"sleep 60 & mktemp; {{ echo $$; echo $!; }} >'{self.work}/hanging'; wait")
+        for number in (signal.SIGINT, signal.SIGTERM, signal.SIGHUP):
+            with self.subTest(signal=number):
+                status, out, _ = self.interrupt(number, "plain")
+                self.assertEqual((status, out), (-number, b""))
+                self.assertEqual(os.listdir(self.scratch), [])
+
+    def test_a_build_whose_launcher_is_killed(self):
+        self.rt_does(f"sleep 60 & {{ echo $$; echo $!; }} >'{self.work}/hanging'; wait")
+        self.assertEqual(self.interrupt(signal.SIGKILL, "plain")[0], -signal.SIGKILL)
+        shutil.rmtree(self.scratch)  # which nobody was left to clean
+        self.scratch.mkdir()
+        self.rt_does(self.builds)
+        self.due(self.go("plain"), 0, PLAIN, BUILT)  # and the lock is free
+
+    def test_a_build_that_leaves_a_process(self):
+        self.rt_does(f"sleep 60 & echo $! >'{self.work}/hanging'; {self.builds}")
+        self.due(self.go("plain"), 0, PLAIN, BUILT)
+        self.assertTrue(self.awaited(lambda: not is_there(int((self.work / "hanging").read_text()))))
+
+    def test_an_ignored_signal_stays_ignored(self):
+        self.go("plain")
+        self.trace("slow", "sleep 0.5; echo end 0 0")
+        process = subprocess.Popen(self.words("slow"), cwd=self.work, env=self.environment, stdout=subprocess.PIPE,
+                                   preexec_fn=lambda: signal.signal(signal.SIGHUP, signal.SIG_IGN))
+        time.sleep(0.2)
+        process.send_signal(signal.SIGHUP)
+        self.assertEqual((process.communicate()[0], process.returncode), (PLAIN, 0))
+
+
+def is_there(number):
+    """Whether a process is there and no mere remnant that nobody has waited for."""
+    try:
+        state = pathlib.Path(f"/proc/{number}/stat").read_text().rpartition(")")[2].split()[0]
+    except OSError:
+        return False
+    return state != "Z"
+
+
+if __name__ == "__main__":
+    unittest.main()
