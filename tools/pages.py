@@ -20,6 +20,7 @@ STAND_IN = re.compile(r"(?:[A-Z]|[A-Z]{2,})(?:\..*)?")  # X.antt, FUNCTION: whoe
 FOREIGN = {
     "the language": {"ensures", "if", "requires", "static"},
     "the C library": {"close", "open", "read", "write", "SIZE_MAX"},
+    "glubotar's commands": {"asm", "explain", "install", "join", "show"},
     "other programs": {"cat", "parallel", "qemu-user", "qemu-x86_64", "rsync", "rt"},
     "PTX": {"and", "atom", "barrier", "exit", "or", "popc", "vote"},
     "traces of bench": {"barriers", "held", "mixed", "objects"},
