@@ -20,15 +20,16 @@ def check(options: Options, output: Output, root: str) -> int:
     report = report_of(options, output, form, names, root)
     conclusion, total = Conclusion(), Total()
     show_count(0, len(names))
-    for answers in Checker(command, Processes(), form != SUMMARY).answers(names, jobs_of(options)):
-        for answer in answers:
-            ask_for_cut(answer, found)
-            if answer.refused or answer.fault or not options.failed:
-                report.add(answer)
-            conclusion.add(answer, looks_like_text)
-            total.add(answer)
-        output.flush()
-        show_count(total.traces, len(names))
+    with Processes() as processes:
+        for answers in Checker(command, processes, form != SUMMARY).answers(names, jobs_of(options)):
+            for answer in answers:
+                ask_for_cut(answer, found)
+                if answer.refused or answer.fault or not options.failed:
+                    report.add(answer)
+                conclusion.add(answer, looks_like_text)
+                total.add(answer)
+            output.flush()
+            show_count(total.traces, len(names))
     progress.erase()
     if total.traces != len(names):
         raise Failure(f"{total.traces} of {len(names)} traces were answered")

@@ -37,7 +37,7 @@ class Answer:
 
 
 class Processes:
-    """The processes that run now. Once it is closed they are gone, and no other is started."""
+    """The processes that run now. At the end of a block with it they are gone, and no other is started."""
 
     def __init__(self) -> None:
         self.running: set[subprocess.Popen[bytes]] = set()
@@ -71,7 +71,10 @@ class Processes:
             with self.guard:
                 self.running.discard(process)
 
-    def close(self) -> None:
+    def __enter__(self) -> Processes:
+        return self
+
+    def __exit__(self, *_: object) -> None:
         with self.guard:
             self.closed = True
             for process in self.running:
@@ -91,10 +94,7 @@ class Checker:
             yield from map(self.answer_group, groups)
             return
         from launcher.side_by_side import in_order
-        try:
-            yield from in_order(self.answer_group, groups, jobs)
-        finally:
-            self.processes.close()
+        yield from in_order(self.answer_group, groups, jobs)
 
     def answer_group(self, names: list[bytes]) -> list[Answer]:
         """The answers to some traces by one process, read as they come. All that it prints belongs to one of them."""

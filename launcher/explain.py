@@ -213,24 +213,29 @@ def explained(name: str, trace: bytes, text: bytes, sentences: Dict[int, Tuple[s
 def explain(options: Options, output: Output, root: str) -> int:
     """Explains every trace that is named. What is explained is read once, and what the checker is given is that."""
     names = Names(options.words).names or [b"-"]
-    sentences = read_refusals(root)
-    checker = Checker(Project(root).command(), Processes(), True)
+    sentences, command = read_refusals(root), Project(root).command()
     summary, total = Conclusion(), Total()
-    for name in names:
-        try:
-            trace = read_file(name, LONGEST_TRACE + 1)
-        except OSError as error:
-            answer = Answer(name, fault=reason(error))
-        else:
-            answer = checker.answer_bytes(name, trace)
-            try:
-                text = explained(said(name), trace, answer.text, sentences, options.all)
-            except ValueError as error:
-                raise Failure(str(error)) from None
-            output.write(text.encode("utf-8", "surrogateescape"))
-        summary.add(answer, lambda _: False)
-        total.add(answer)
-        output.flush()
+    with Processes() as processes:
+        checker = Checker(command, processes, keep_text=True)
+        for name in names:
+            answer = explain_one(name, checker, sentences, options.all, output)
+            summary.add(answer, lambda _: False)
+            total.add(answer)
+            output.flush()
     output.close()
     summary.say()
     return total.status()
+
+
+def explain_one(name: bytes, checker: Checker, sentences: Dict[int, Tuple[str, str]], every: bool, output: Output) -> Answer:
+    try:
+        trace = read_file(name, LONGEST_TRACE + 1)
+    except OSError as error:
+        return Answer(name, fault=reason(error))
+    answer = checker.answer_bytes(name, trace)
+    try:
+        text = explained(said(name), trace, answer.text, sentences, every)
+    except ValueError as error:
+        raise Failure(str(error)) from None
+    output.write(text.encode("utf-8", "surrogateescape"))
+    return answer

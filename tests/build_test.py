@@ -260,6 +260,13 @@ class Interrupts(WithKit):
                     self.assertNotIn(b"total", out)
                     self.assertEqual(os.listdir(self.scratch), [])
 
+    def test_a_run_whose_output_nobody_takes(self):
+        self.go("plain")
+        self.trace("long", "for i in $(seq 20000); do echo $i ok; done; echo end 20000 0")
+        self.trace("hanging_trace", f"echo $$ >>'{self.work}/hanging'; exec sleep 60")
+        status, _, err = self.interrupt(signal.SIGTERM, "--lines", "-j3", "long", "long", "hanging_trace", "hanging_trace")
+        self.assertEqual((status, err), (-signal.SIGTERM, b""))
+
     def test_a_build(self):
         self.rt_does(f"sleep 60 & mktemp; {{ echo $$; echo $!; }} >'{self.work}/hanging'; wait")
         for number in (signal.SIGINT, signal.SIGTERM, signal.SIGHUP):
