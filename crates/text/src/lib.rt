@@ -1,11 +1,12 @@
 // The text of a whole trace, laid into a buffer that the caller lends.
 use lines::MOST_LINE;
 use trace_look::MOST_BYTES;
+use trace_text::Counts;
 ghost use mathlib.Core.Path.{_≡_};
 ghost use lib.Dec.{leb};
 ghost use lib.ListN.{length};
 ghost use Rattle.fields.specs.Num.{laid};
-ghost use Rattle.trace_text.specs.Text.{textOf, roomFor};
+ghost use Rattle.trace_text.specs.Text.{textOf, roomFor, countsOf};
 ghost use Rattle.text.specs.Buffer.{answerOf};
 
 // The length of the text that was laid; or that the buffer is too short.
@@ -29,7 +30,17 @@ pub fn needed(trace: &[u8]) -> usize
     ensures { λ r. ⌜ r ≡ length (textOf (now (trace .entry))) ⌝ }
 {
     let mut none = [0u8; 0];
-    text_turns::lay_text(trace, &mut none)
+    let told = text_turns::lay_text(trace, &mut none);
+    told.length
+}
+
+// The numbers of the text of a trace: how many lines are accepted and refused, and the first refused.
+pub fn counts(trace: &[u8]) -> Counts
+    ensures { λ r. ⌜ r ≡ countsOf (now (trace .entry)) ⌝ }
+{
+    let mut none = [0u8; 0];
+    let told = text_turns::lay_text(trace, &mut none);
+    told.counts
 }
 
 // Whether the text of a trace has at most so many bytes; it is counted only where the room for any such trace is more.
@@ -49,5 +60,6 @@ pub fn lay(trace: &[u8], out: &mut [u8]) -> Laid
     if !fits(trace, out.len()) {
         return Laid::Short;
     }
-    Laid::Length(text_turns::lay_text(trace, &mut *out))
+    let told = text_turns::lay_text(trace, &mut *out);
+    Laid::Length(told.length)
 }

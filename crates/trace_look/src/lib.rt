@@ -4,6 +4,7 @@ use steps::Cursor;
 use steps::Op;
 use steps::Read;
 use steps::Step;
+use trace_text::First;
 ghost use mathlib.Core.Path.{_≡_};
 ghost use Rattle.trace_text.specs.Text.{traceRefusal};
 ghost use Rattle.trace_look.specs.Places.{firstPlace, looked};
@@ -11,13 +12,14 @@ ghost use Rattle.trace_look.specs.Places.{firstPlace, looked};
 // A trace has at most 65,536 bytes.
 pub const MOST_BYTES: usize = 65536;
 
-// A text that is being laid: whether a step was found at the run's place, else why the run stops there, 1, 2 or 0 where no byte is left; the place after what is laid; the place of the next step; the step that was found.
+// A text that is being laid: whether a step was found at the run's place, else why the run stops there, 1, 2 or 0 where no byte is left; the place after what is laid; the place of the next step; the step that was found; the first refused line of those that are laid.
 pub struct Laying {
     pub going: bool,
     pub stop: u8,
     pub at: usize,
     pub cursor: Cursor,
     pub step: Step,
+    pub first: First,
 }
 
 // Why a trace is refused before its steps; 0 where it is not.
@@ -50,6 +52,10 @@ pub fn first_place() -> Laying
             warp: 0,
             op: Op::Exit,
         },
+        first: First {
+            step: 0,
+            refusal: 0,
+        },
     }
 }
 
@@ -60,6 +66,7 @@ pub fn look(trace: &[u8], l: Laying) -> Laying
     let at = l.at;
     let cursor = l.cursor;
     let step = l.step;
+    let first = l.first;
     if trace.len() <= cursor.at {
         return Laying {
             going: false,
@@ -67,6 +74,7 @@ pub fn look(trace: &[u8], l: Laying) -> Laying
             at,
             cursor,
             step,
+            first,
         };
     }
     match cursor.read(trace) {
@@ -76,6 +84,7 @@ pub fn look(trace: &[u8], l: Laying) -> Laying
             at,
             cursor: next,
             step: found,
+            first,
         },
         Read::Refused(n) => Laying {
             going: false,
@@ -83,6 +92,7 @@ pub fn look(trace: &[u8], l: Laying) -> Laying
             at,
             cursor,
             step,
+            first,
         },
     }
 }

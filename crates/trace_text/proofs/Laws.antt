@@ -1,7 +1,7 @@
 -- The claims on the text of a trace, proved.
 -- Assumes nothing.
-use mathlib.Core.Path.{_≡_, refl, ap}
-use mathlib.Core.List.{List, [], _∷_}
+use mathlib.Core.Path.{_≡_, refl, sym, ap, _∙_}
+use mathlib.Core.List.{List, [], _∷_, _++_}
 use Prim.Native.Nat.{ℕ, zero, suc, _≤_}
 use native.Mathlib.Omega.{arith}
 use native.Mathlib.Nat.{min-eq-left}
@@ -17,14 +17,18 @@ use Rattle.tables.specs.Effect.{taken, State, next, run, verdicts}
 use Rattle.digits.specs.Digits.{decimal}
 use Rattle.lines.specs.Lines.{lineOf, endOf}
 use Rattle.trace_text.specs.Run.{stepsFrom, taking, freshState, runOf}
-use Rattle.trace_text.specs.Text.{traceRefusal, linesOf, lastOf, textLines, joined, textOf, roomFor}
-use Rattle.trace_text.specs.Laws.{MoreChangesNothing, countedIn, TallyCountsLines, RoomIsEnough, WholeCase}
+use Rattle.trace_text.specs.Text.{traceRefusal, linesOf, lastOf, endIn, textLines, joined, textOf, roomFor, numberedLines, tallyOf}
+use Rattle.trace_text.specs.Laws.{MoreChangesNothing, countedIn, TallyCountsLines, printed, NumbersPrinted, RoomIsEnough, WholeCase, WholeCounts}
 use Rattle.trace_text.proofs.Run.{enough, steps-most, verdict-each}
-use Rattle.trace_text.proofs.Text.{begins, lines-refused, lines-run, joined-append, lines-most, refused-most, last-most}
+use Rattle.trace_text.proofs.Text.{begins, lines-refused, lines-run, numbered-refused, numbered-run, tally-refused, tally-run, run-printed, joined-append, lines-most, refused-most, last-most}
 
 pub whole-case : WholeCase
 unfolding all first every lowest firsts sizeBelow setOf readAt soundBlock refusal taken decimal lineOf endOf stepsFrom traceRefusal textLines textOf
 whole-case = refl
+
+pub whole-counts : WholeCounts
+unfolding all first every lowest firsts sizeBelow setOf readAt soundBlock refusal taken stepsFrom traceRefusal numberedLines tallyOf
+whole-counts = refl
 
 pub more-changes-nothing : MoreChangesNothing
 more-changes-nothing s most h = ap (taking (freshState (getD s 0 0))) (enough most (length s) s 1 (omega arith) (omega arith))
@@ -35,6 +39,19 @@ tally-counts-lines most s x at = counts x (stepsFrom most s at .steps)
     counts : (y : State) (l : List Step) → run y l .tally ≡ countedIn (y .tally) (verdicts y l)
     counts y [] = refl
     counts y (st ∷ l) = counts (next y st) l
+
+pub numbers-printed : NumbersPrinted
+numbers-printed s = refused (traceRefusal s) refl
+  where
+    refused : (n : ℕ) → traceRefusal s ≡ n → textLines s ≡ printed (numberedLines s) ++ (endIn (tallyOf s) ∷ [])
+    refused zero e =
+        let r = runOf s in
+        lines-run s e
+        ∙ run-printed freshTally (r .state .tally) (r .stop) (r .verdicts)
+        ∙ sym (λ i. printed (numbered-run s e i) ++ (endIn (tally-run s e i) ∷ []))
+    refused (suc n) e =
+        let some : traceRefusal s ≡ 0 → ⊥ = λ z. omega arith in
+        lines-refused s some ∙ sym (λ i. printed (numbered-refused s some i) ++ (endIn (tally-refused s some i) ∷ []))
 
 pub room-is-enough : RoomIsEnough
 unfolding textOf

@@ -19,7 +19,8 @@ use Rattle.tables.specs.Tables.{tallied, freshTally}
 use Rattle.lines.specs.Lines.{mostLine, lineOf, endOf}
 use Rattle.lines.proofs.Lines.{line-most, end-most}
 use Rattle.trace_text.specs.Run.{runOf}
-use Rattle.trace_text.specs.Text.{mostBytes, traceRefusal, numberIn, linesOf, endIn, lastOf, runLines, refusedLines, textLines, joined, textOf}
+use Rattle.trace_text.specs.Text.{mostBytes, traceRefusal, numberIn, linesOf, endIn, lastOf, runLines, refusedLines, textLines, joined, textOf, Numbered, numberedOf, stopOf, endTally, runNumbered, numberedLines, tallyOf}
+use Rattle.trace_text.specs.Laws.{printed}
 
 -- ---- a trace that is refused before its steps, and one that is not
 
@@ -31,6 +32,22 @@ module _ (s : List ℕ) where
   pub lines-run : traceRefusal s ≡ 0 → textLines s ≡ runLines freshTally (runOf s)
   unfolding textLines
   lines-run e = rw e
+
+  pub numbered-refused : (traceRefusal s ≡ 0 → ⊥) → numberedLines s ≡ record { number = 0; verdict = Refused (traceRefusal s) } ∷ []
+  unfolding numberedLines
+  numbered-refused h = rw (ne-eqb (traceRefusal s) 0 h)
+
+  pub numbered-run : traceRefusal s ≡ 0 → numberedLines s ≡ runNumbered freshTally (runOf s)
+  unfolding numberedLines
+  numbered-run e = rw e
+
+  pub tally-refused : (traceRefusal s ≡ 0 → ⊥) → tallyOf s ≡ record { accepted = 0; refused = 1 }
+  unfolding tallyOf
+  tally-refused h = rw (ne-eqb (traceRefusal s) 0 h)
+
+  pub tally-run : traceRefusal s ≡ 0 → tallyOf s ≡ endTally (runOf s .state .tally) (runOf s .stop)
+  unfolding tallyOf
+  tally-run e = rw e
 
   -- one that is too long, whatever its bytes are
   pub text-long : mostBytes < length s → textOf s ≡ joined (refusedLines 21)
@@ -51,6 +68,17 @@ begins s e =
     let no = none-at _ refl e in
     let empty = eqb-false (length s) 0 (no 1) in
     record { some = omega (arith, empty); short = ltb-false mostBytes (length s) (no 0); warps = no 2 }
+
+-- ---- the numbered lines are those that are printed
+
+pub run-printed : (y x : Tally) (n : ℕ) (vs : List Verdict) → linesOf y vs ++ lastOf x n ≡ printed (numberedOf y vs ++ stopOf x n) ++ (endIn (endTally x n) ∷ [])
+run-printed y x n [] = either (eqb n 0)
+  where
+    either : (b : Bool) → cond b (endIn x ∷ []) (lineOf (numberIn x) (Refused n) ∷ endIn (tallied x (Refused n)) ∷ [])
+        ≡ printed (cond b [] (record { number = numberIn x; verdict = Refused n } ∷ [])) ++ (endIn (cond b x (tallied x (Refused n))) ∷ [])
+    either true = refl
+    either false = refl
+run-printed y x n (v ∷ vs) = ap (λ (ws : List (List ℕ)). lineOf (numberIn y) v ∷ ws) (run-printed (tallied y v) x n vs)
 
 -- ---- how long the lines are
 

@@ -1,7 +1,7 @@
 -- What is claimed of the text of a trace.
 -- Assumes nothing.
 use mathlib.Core.Path.{_≡_}
-use mathlib.Core.List.{List, [], _∷_}
+use mathlib.Core.List.{List, [], _∷_, _++_}
 use Prim.Native.Nat.{ℕ, _≤_}
 use lib.ListN.{length, getD}
 use Rattle.block.specs.declared.Verdict.{Verdict}
@@ -9,7 +9,8 @@ use Rattle.tables.specs.declared.Tally.{Tally}
 use Rattle.tables.specs.Tables.{tallied}
 use Rattle.tables.specs.Effect.{State}
 use Rattle.trace_text.specs.Run.{runFrom, freshState, runOf}
-use Rattle.trace_text.specs.Text.{textOf, roomFor}
+use Rattle.lines.specs.Lines.{lineOf}
+use Rattle.trace_text.specs.Text.{endIn, textLines, textOf, roomFor, Numbered, numberedLines, tallyOf, countsOf}
 
 -- as many steps as there are bytes are enough: more that may be read change nothing
 abbrev pub MoreChangesNothing : Type 0
@@ -24,6 +25,15 @@ countedIn y (v ∷ vs) = countedIn (tallied y v) vs
 abbrev pub TallyCountsLines : Type 0
 TallyCountsLines =
     (most : ℕ) (s : List ℕ) (x : State) (at : ℕ) → runFrom most s x at .state .tally ≡ countedIn (x .tally) (runFrom most s x at .verdicts)
+
+-- some numbered lines as they are printed
+abbrev pub printed : List Numbered → List (List ℕ)
+printed [] = []
+printed (x ∷ xs) = lineOf (x .number) (x .verdict) ∷ printed xs
+
+-- what a text prints is its numbered lines and the end line of its tally, and no other: the counts are of these
+abbrev pub NumbersPrinted : Type 0
+NumbersPrinted = (s : List ℕ) → textLines s ≡ printed (numberedLines s) ++ (endIn (tallyOf s) ∷ [])
 
 -- the room for a trace of some length is enough for its text
 abbrev pub RoomIsEnough : Type 0
@@ -46,3 +56,7 @@ wholeText =
 
 abbrev pub WholeCase : Type 0
 WholeCase = textOf wholeTrace ≡ wholeText
+
+-- its counts: `3 no 14` and `end 2 1`
+abbrev pub WholeCounts : Type 0
+WholeCounts = countsOf wholeTrace ≡ record { accepted = 2; refused = 1; step = 3; refusal = 14 }

@@ -7,12 +7,14 @@ use lib.Dec.{eqb, ltb}
 use lib.ListN.{length, getD}
 use Rattle.folds.specs.Folds.{lowest}
 use Rattle.block.specs.declared.Verdict.{Verdict}
-use Rattle.block.specs.declared.Verdict.the-variants.{Refused}
+use Rattle.block.specs.declared.Verdict.the-variants.{Refused, Accepted}
 use Rattle.block.specs.Tables.{mostWarps}
 use Rattle.barrier_row.specs.Rows.{largest}
 use Rattle.tables.specs.declared.Tally.{Tally}
 use Rattle.tables.specs.Tables.{tallied, freshTally}
 use Rattle.lines.specs.Lines.{mostLine, lineOf, endOf}
+use Rattle.trace_text.specs.declared.First.{First}
+use Rattle.trace_text.specs.declared.Counts.{Counts}
 use Rattle.trace_text.specs.Run.{Run, runOf}
 
 -- a trace has at most 65,536 bytes
@@ -69,3 +71,57 @@ textOf s = joined (textLines s)
 -- a step takes two bytes at least, so a trace has at most a line for every two bytes, the line of a 1 or 2 or the line 0, and the end line; one that is too long has no more than the longest
 abbrev pub roomFor : ℕ → ℕ
 roomFor n = (min n mostBytes / 2 + 2) * mostLine
+
+-- ---- the numbers of the text
+
+-- what a numbered line says: `N ok V D M` or `N no R`
+pub record Numbered : Type 0 where
+  pub number : ℕ
+  pub verdict : Verdict
+
+-- the numbered lines of some verdicts, after so many accepted and refused
+abbrev pub numberedOf : Tally → List Verdict → List Numbered
+numberedOf y [] = []
+numberedOf y (v ∷ vs) = record { number = numberIn y; verdict = v } ∷ numberedOf (tallied y v) vs
+
+-- the numbered line of the 1 or 2 that a run stopped at, if it did
+abbrev pub stopOf : Tally → ℕ → List Numbered
+stopOf y n = cond (eqb n 0) [] (record { number = numberIn y; verdict = Refused n } ∷ [])
+
+-- accepted and refused lines in the end line, which counts that one too
+abbrev pub endTally : Tally → ℕ → Tally
+endTally y n = cond (eqb n 0) y (tallied y (Refused n))
+
+-- the numbered lines of a run that began with this tally
+abbrev pub runNumbered : Tally → Run → List Numbered
+runNumbered y r = numberedOf y (r .verdicts) ++ stopOf (r .state .tally) (r .stop)
+
+-- the numbered lines of a text
+unfoldable pub numberedLines : List ℕ → List Numbered
+numberedLines s = cond (eqb (traceRefusal s) 0) (runNumbered freshTally (runOf s)) (record { number = 0; verdict = Refused (traceRefusal s) } ∷ [])
+
+-- A and B of its end line
+unfoldable pub tallyOf : List ℕ → Tally
+tallyOf s = cond (eqb (traceRefusal s) 0) (endTally (runOf s .state .tally) (runOf s .stop)) (record { accepted = 0; refused = 1 })
+
+-- no line is refused
+abbrev pub noneRefused : First
+noneRefused = record { step = 0; refusal = 0 }
+
+-- N and R of the line `N no R`; of a line `N ok V D M`, those of the lines after it
+abbrev pub refusedOr : ℕ → Verdict → First → First
+refusedOr n (Refused r) rest = record { step = n; refusal = r }
+refusedOr n (Accepted v d m) rest = rest
+
+-- N and R of the first line `N no R`
+abbrev pub firstRefused : List Numbered → First
+firstRefused [] = noneRefused
+firstRefused (x ∷ xs) = refusedOr (x .number) (x .verdict) (firstRefused xs)
+
+-- a tally and the first refused line, as one
+abbrev pub countsIn : Tally → First → Counts
+countsIn y f = record { accepted = y .accepted; refused = y .refused; step = f .step; refusal = f .refusal }
+
+-- the numbers of a text: A and B of its end line, and N and R of its first line `N no R`
+abbrev pub countsOf : List ℕ → Counts
+countsOf s = countsIn (tallyOf s) (firstRefused (numberedLines s))

@@ -34,7 +34,7 @@ returns-2 c =
     let a = e .before .before .before .before .args in
     let text = textOf (now (a .trace)) in
     let fits = sym (f .ensures) ∙ not-false (f .result) (e .if1 .left) in
-    (answer-fits text (now (a .out)) (l .result) fits (l .ensures .size), l .ensures .bytes ∙ text-fits (now (a .trace)) (now (a .out)) (leb-true (length text) (length (now (a .out))) fits))
+    (answer-fits text (now (a .out)) (l .result .length) fits (l .ensures .size), l .ensures .bytes ∙ text-fits (now (a .trace)) (now (a .out)) (leb-true (length text) (length (now (a .out))) fits))
 
 pub lay-spec : {M : Type 1} → statement M
 lay-spec = tie.close (tie.spec fits-requires returns lay-text-requires same-length returns-2)

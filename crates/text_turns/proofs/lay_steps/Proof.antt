@@ -42,6 +42,7 @@ lay-turns-requires c κs =
       fresh = fresh;
       first = ap (λ (l : Laying). l .cursor .at) first;
       place = ap (λ (l : Laying). l .at) first;
+      none = ap (λ (l : Laying). l .first) first;
       fits =
           subst (λ (x : State). Fits (k .fresh-checked .result) (x .tables)) (sym fresh)
           (subst (λ (known : Checked). Fits known (freshTables (getD s 0 0))) (sym (k .fresh-checked .ensures ∙ ap (λ (w : ℕ). checkedOf (freshTables w)) same)) (check-fits (freshTables (getD s 0 0))));

@@ -9,7 +9,7 @@ use Rattle.trace_look.proofs.look.Tie as tie
 
 returns : tie.Need-returns
 returns c =
-    let a = c .before .before .before .before .before .args in
+    let a = c .before .before .before .before .before .before .args in
     sym (look-end (now (a .trace)) (a .l) (c .if1 .taken))
 
 read-requires : tie.Need-read-requires
@@ -24,13 +24,13 @@ enum-known-n c = search needs
 returns-2 : tie.Need-returns-2
 returns-2 c =
     let r = c .before .before .before in
-    let a = r .before .before .before .before .before .before .args in
+    let a = r .before .before .before .before .before .before .before .args in
     sym (look-step (now (a .trace)) (a .l) (r .before .if1 .left) _ _ (sym (r .read .ensures) ∙ c .before .found .given .1))
 
 returns-3 : tie.Need-returns-3
 returns-3 c =
     let r = c .before .before .before in
-    let a = r .before .before .before .before .before .before .args in
+    let a = r .before .before .before .before .before .before .before .args in
     sym (look-stop (now (a .trace)) (a .l) (r .before .if1 .left) _ (sym (r .read .ensures) ∙ c .before .n .given .1))
 
 pub look-spec : {M : Type 1} → statement M
