@@ -1,8 +1,9 @@
 # Sourced at the root of the repository by scripts that link the checker's archive,
 # which is compiled for x86-64 whatever the machine. Sets $archive, which has to be
-# there and to be made from the sources as they are now; $cxx, a C++ compiler for it
-# (installed where missing) with what it needs to link statically; and $emulator,
-# which runs such programs here and is empty where nothing is needed.
+# there and to be made from the sources as they are now; $cc and $cxx, a C and a C++
+# compiler for it (installed where missing), $cxx with what it needs to link
+# statically; and $emulator, which runs such programs here and is empty where nothing
+# is needed.
 archive=target/staticlib/libglubotar_c.a
 if [ ! -f "$archive" ]; then
     echo "$archive is missing; rt staticlib glubotar_c makes it" >&2
@@ -25,6 +26,7 @@ if ! command -v "$cxx" >/dev/null; then
         exit 2
     }
 fi
+cc=${cxx%g++}gcc
 if [ "$(uname -m)" != x86_64 ]; then
     # Debian's libm.a for this compiler is a script that names files by the paths
     # of an x86-64 machine; the library itself stands beside it.

@@ -1,4 +1,5 @@
-// Compares the whole text of the checker with that of the engine.
+// Compares the whole text of the checker, and the numbers that it counts, with those of
+// the engine's text.
 #include <cstdio>
 #include <cstdlib>
 #include <cstring>
@@ -10,6 +11,7 @@
 #include "coverage.hpp"
 #include "engine.hpp"
 #include "generate.hpp"
+#include "numbers.hpp"
 #include "subject.hpp"
 #include "watch.hpp"
 
@@ -70,6 +72,11 @@ bool same(const Bytes &trace, const std::string &engine, const std::string &chec
   return false;
 }
 
+// A text with the numbers that stand in it.
+std::string numbered(const std::string &text, Fault fault = Fault::none) {
+  return with_numbers(text, numbers_in(text, fault));
+}
+
 bool compare_traces(Number seed, Number count) {
   Coverage coverage;
   u64 digest = 0xcbf29ce484222325;  // FNV-1a: the same on every machine
@@ -81,7 +88,7 @@ bool compare_traces(Number seed, Number count) {
     const Report report = check(trace);
     coverage.note(report);
     const std::string text = i % 16 == 0 ? subject_text_with_limits(trace) : subject_text(trace);
-    if (!same(trace, report.text, text, what)) return false;
+    if (!same(trace, numbered(report.text), text, what)) return false;
   }
   std::printf("%llu traces of seed %llu, digest %016llx: the same\n", count, seed,
               static_cast<Number>(digest));
@@ -93,7 +100,7 @@ bool compare_random(Number seed, Number count) {
     const Bytes input = random_input(seed, i);
     const std::string what = "random input " + std::to_string(i);
     const Checked checked(input, what);
-    if (!same(input, check(input).text, subject_text(input), what)) return false;
+    if (!same(input, numbered(check(input).text), subject_text(input), what)) return false;
   }
   std::printf("%llu random inputs of seed %llu: the same\n", count, seed);
   return true;
@@ -105,7 +112,7 @@ bool compare_expected(const std::vector<std::string> &names) {
     const Checked checked(trace, name);
     const std::string expected = contents(name.substr(0, name.rfind(".trace")) + ".expected");
     if (!same(trace, check(trace).text, expected, name + " in the engine")) return false;
-    if (!same(trace, expected, subject_text_with_limits(trace), name)) return false;
+    if (!same(trace, numbered(expected), subject_text_with_limits(trace), name)) return false;
   }
   std::printf("%zu traces with expected texts: the same\n", names.size());
   return true;
@@ -119,7 +126,8 @@ bool compare_truncations(const std::vector<std::string> &names) {
       ++count;
       const std::string what = name + " cut to " + std::to_string(trace.size());
       const Checked checked(trace, what);
-      if (!same(trace, check(trace).text, subject_text_with_limits(trace), what)) return false;
+      if (!same(trace, numbered(check(trace).text), subject_text_with_limits(trace), what))
+        return false;
       if (trace.empty()) break;
       trace.pop_back();
     }
@@ -139,7 +147,7 @@ bool find_faults(Number seed, Number count) {
     const std::string text = subject_text(trace);
     std::vector<FaultName> left;
     for (const FaultName &f : hidden) {
-      if (check(trace, f.fault).text == text) left.push_back(f);
+      if (numbered(check(trace, f.fault).text, f.fault) == text) left.push_back(f);
       else std::printf("  %5llu %-24s %s\n", i, f.name, f.sentence);
     }
     hidden = left;

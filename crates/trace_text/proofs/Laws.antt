@@ -18,7 +18,7 @@ use Rattle.digits.specs.Digits.{decimal}
 use Rattle.lines.specs.Lines.{lineOf, endOf}
 use Rattle.trace_text.specs.Run.{stepsFrom, taking, freshState, runOf}
 use Rattle.trace_text.specs.Text.{traceRefusal, linesOf, lastOf, endIn, textLines, joined, textOf, roomFor, numberedLines, tallyOf}
-use Rattle.trace_text.specs.Laws.{MoreChangesNothing, countedIn, TallyCountsLines, printed, NumbersPrinted, RoomIsEnough, WholeCase, WholeCounts}
+use Rattle.trace_text.specs.Laws.{MoreChangesNothing, countedIn, TallyCountsLines, printed, NumbersPrinted, RoomIsEnough, WholeCase, CountsCase}
 use Rattle.trace_text.proofs.Run.{enough, steps-most, verdict-each}
 use Rattle.trace_text.proofs.Text.{begins, lines-refused, lines-run, numbered-refused, numbered-run, tally-refused, tally-run, run-printed, joined-append, lines-most, refused-most, last-most}
 
@@ -26,9 +26,9 @@ pub whole-case : WholeCase
 unfolding all first every lowest firsts sizeBelow setOf readAt soundBlock refusal taken decimal lineOf endOf stepsFrom traceRefusal textLines textOf
 whole-case = refl
 
-pub whole-counts : WholeCounts
+pub counts-case : CountsCase
 unfolding all first every lowest firsts sizeBelow setOf readAt soundBlock refusal taken stepsFrom traceRefusal numberedLines tallyOf
-whole-counts = refl
+counts-case = refl
 
 pub more-changes-nothing : MoreChangesNothing
 more-changes-nothing s most h = ap (taking (freshState (getD s 0 0))) (enough most (length s) s 1 (omega arith) (omega arith))

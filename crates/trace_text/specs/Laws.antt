@@ -57,6 +57,8 @@ wholeText =
 abbrev pub WholeCase : Type 0
 WholeCase = textOf wholeTrace ≡ wholeText
 
--- its counts: `3 no 14` and `end 2 1`
-abbrev pub WholeCounts : Type 0
-WholeCounts = countsOf wholeTrace ≡ record { accepted = 2; refused = 1; step = 3; refusal = 14 }
+-- its counts, where its last step comes once more, and then a kind that no step has: the lines end with `3 no 14`, `4 no 14`, `5 no 1` and `end 2 3`
+abbrev pub CountsCase : Type 0
+CountsCase =
+    countsOf (wholeTrace ++ (0x07 ∷ 0x00 ∷ 0x00 ∷ 0x00 ∷ 0x00 ∷ 0x00 ∷ 0x00 ∷ 0x00 ∷ 0xff ∷ []))
+    ≡ record { accepted = 2; refused = 3; step = 3; refusal = 14 }
