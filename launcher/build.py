@@ -45,16 +45,25 @@ def build_once(project: Project) -> None:
 
 
 def build(project: Project) -> None:
-    before = project.content(project.sources())
+    try:
+        before = project.content(project.sources())
+    except OSError as error:
+        raise Failure(f"a source can't be read: {named(error)}: {reason(error)}") from None
     say(f"building the checker; it is proved first, which takes up to ten minutes (log: {log_of(project)})")
     run_rt(project, "check", "glubotar")
     try:
         collect(project)
+        places = project.places()
+        times = project.times(places)
         if project.content(project.sources()) != before:
             raise Failure("the sources changed while the checker was built; start again")
-        project.write_record(project.places())
+        project.write_record(project.content(places), times, places)
     except OSError as error:
         raise Failure(f"the checker can't be kept in {project.checker}: {reason(error)}") from None
+
+
+def named(error: OSError) -> str:
+    return os.fsdecode(error.filename) if error.filename else "a file"
 
 
 def collect(project: Project) -> None:
@@ -70,7 +79,7 @@ def collect(project: Project) -> None:
     os.makedirs(project.checker)
     for name, source in files.items():
         if os.path.exists(source):
-            write_whole(os.fsencode(os.path.join(project.checker, name)), read_file(os.fsencode(source)), 0o777)
+            write_whole(os.fsencode(os.path.join(project.checker, name)), read_file(os.fsencode(source)), 0o755)
 
 
 def log_of(project: Project) -> str:
@@ -107,7 +116,7 @@ def run_rt(project: Project, *words: str) -> None:
 
 def crates(project: Project, name: str) -> list[str]:
     """A crate and all that it is built on, by crates.txt."""
-    with open(os.path.join(project.root, "crates.txt"), encoding="utf-8") as lines:
+    with open(os.path.join(project.root, "crates.txt"), encoding="utf-8", errors="replace") as lines:
         needs = {line.partition(":")[0].strip(): line.partition(":")[2].split() for line in lines}
     found, left = [], [name]
     while left:

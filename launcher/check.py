@@ -4,7 +4,7 @@ from __future__ import annotations
 import os
 
 from launcher.checker import Answer, Checker, Processes, looks_like_text
-from launcher.names import Names
+from launcher.names import Names, standard_input
 from launcher.options import Options
 from launcher.project import Project
 from launcher.report import PLAIN, SUMMARY, Conclusion, Report, Rows, Table, Total
@@ -39,12 +39,6 @@ def check(options: Options, output: Output, root: str) -> int:
     return total.status()
 
 
-def standard_input() -> bytes:
-    if os.isatty(0):
-        raise Failure("no trace is named, and standard input is a terminal; see --help")
-    return b"-"
-
-
 def jobs_of(options: Options) -> int:
     return options.jobs or len(os.sched_getaffinity(0))
 
@@ -62,7 +56,7 @@ def show_count(done: int, count: int) -> None:
 
 def report_of(options: Options, output: Output, form: str, names: list[bytes], root: str) -> Report:
     if options.format == "text" and form == SUMMARY and output.terminal:
-        return Table(output, names, not os.environ.get("NO_COLOR") and os.environ.get("TERM") != "dumb")
+        return Table(output, names, not os.environ.get("NO_COLOR") and os.environ.get("TERM", "dumb") != "dumb")
     if options.format in ("text", "tsv"):
         return Rows(output, form)
     from launcher.forms import Json, Junit

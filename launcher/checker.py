@@ -11,7 +11,7 @@ from collections.abc import Iterator
 
 from launcher.names import said
 from launcher.signals import held
-from launcher.streams import Failure, read_file, reason
+from launcher.streams import PIECE, Failure, read_file, reason
 
 GROUP_TRACES = 1024  # in one process
 KEPT_TRACES = 64     # the same where all lines are kept until it is their turn
@@ -19,7 +19,7 @@ GROUP_BYTES = 65536  # of names in one process, below what any command line hold
 LONGEST_NAME = 4095  # no file has a longer one
 LONGEST_TRACE = 65536
 INPUT = b"-"
-SET_PIPE_SIZE, CHUNK = 1031, 1 << 18  # Linux's number, which older Pythons don't name; bytes that are read at a time
+SET_PIPE_SIZE = 1031  # Linux's number, which older Pythons don't name
 TEXT_CONTROL = set(range(32)) - set(b"\t\n\f\r")  # bytes that no text has
 
 
@@ -98,18 +98,26 @@ class Checker:
 
     def answer_group(self, names: list[bytes]) -> list[Answer]:
         """The answers to some traces by one process, read as they come. All that it prints belongs to one of them."""
+        if names == [INPUT]:
+            return [self.answer_input()]
         if len(names[0]) > LONGEST_NAME:
             return [Answer(names[0], fault="its name is too long")]
         answers: list[Answer] = []
         rest = b""
-        with self.processes.started(self.command + [name for name in names if name != INPUT]) as process:
+        with self.processes.started(self.command + names) as process:
             for chunk in chunks(process):
                 rest = self.take_answers(names, answers, rest + chunk)
-        if names == [INPUT] and not answers and not rest and process.returncode == 0:
-            return [Answer(INPUT, fault=why_unreadable(INPUT))]
         if len(answers) < len(names) or rest or process.returncode != 0:
             raise broke_off(names[min(len(answers), len(names) - 1)])
         return answers
+
+    def answer_input(self) -> Answer:
+        """The answer to standard input, which is read here: it may be a pipe that doesn't block."""
+        try:
+            trace = read_file(INPUT, LONGEST_TRACE + 1)
+        except OSError as error:
+            return Answer(INPUT, fault=reason(error))
+        return self.answer_bytes(INPUT, trace)
 
     def answer_bytes(self, name: bytes, trace: bytes) -> Answer:
         """The answer to the bytes of a trace."""
@@ -125,10 +133,9 @@ class Checker:
         at = 0
         while len(answers) < len(names):
             name = names[len(answers)]
-            head = b"" if name == INPUT else b"file %s\n" % name
             answer = None
-            if output.startswith(head, at):
-                answer, after = self.take_text(name, output, at + len(head))
+            if output.startswith(b"file %s\n" % name, at):
+                answer, after = self.take_text(name, output, at + len(name) + 6)
             elif output.startswith(b"unreadable %s\n" % name, at):
                 answer, after = Answer(name, fault=why_unreadable(name)), at + len(name) + 12
             if answer is None:
@@ -138,14 +145,15 @@ class Checker:
         return output[at:]
 
     def take_text(self, name: bytes, output: bytes, start: int) -> tuple[Answer | None, int]:
-        """The answer whose lines begin at a place, if they stand there whole, and the place after them."""
+        """The answer whose lines begin at a place, if they stand there whole, and the place after them. What the end line
+        counts has to be there."""
         end = start if output.startswith(b"end ", start) else output.find(b"\nend ", start) + 1
         after = output.find(b"\n", end) + 1
         words = output[end:after].split(b" ")
         if words[0] != b"end" or len(words) != 3:
             return None, start
         accepted, refused = number(words[1]), number(words[2][:-1])
-        if accepted + refused != lines_between(output, start, end):
+        if accepted + refused != lines_between(output, start, end) or refused != output.count(b" no ", start, end):
             raise Failure(f"the checker's lines don't add up for {said(name)}")
         first = first_refused(output, start, end) if refused else None
         text = output[start:after] if self.keep_text else b""
@@ -157,9 +165,9 @@ def chunks(process: subprocess.Popen[bytes]) -> Iterator[bytes]:
     assert process.stdout
     with process.stdout as output:
         with contextlib.suppress(OSError):
-            fcntl.fcntl(output.fileno(), SET_PIPE_SIZE, CHUNK)  # it waits less often for its reader
+            fcntl.fcntl(output.fileno(), SET_PIPE_SIZE, PIECE)  # it waits less often for its reader
         while True:
-            chunk = os.read(output.fileno(), CHUNK)
+            chunk = os.read(output.fileno(), PIECE)
             if not chunk:
                 return
             yield chunk
@@ -182,8 +190,6 @@ def lines_between(output: bytes, start: int, end: int) -> int:
 def first_refused(output: bytes, start: int, end: int) -> tuple[int, int]:
     """The step and the number of the first line `N no R` between two places."""
     at = output.find(b" no ", start, end)
-    if at < 0:
-        raise Failure("the checker counts a refused step and shows none")
     line = max(output.rfind(b"\n", start, at) + 1, start)
     return number(output[line:at]), number(output[at + 4:output.find(b"\n", at)])
 
@@ -194,10 +200,7 @@ def broke_off(name: bytes) -> Failure:
 
 def why_unreadable(name: bytes) -> str:
     try:
-        if name == INPUT:
-            os.read(0, 0)
-        else:
-            read_file(name, 1)
+        read_file(name, 1)
     except OSError as error:
         return reason(error)
     return "it couldn't be read just now"
@@ -205,14 +208,14 @@ def why_unreadable(name: bytes) -> str:
 
 def looks_like_text(answer: Answer) -> bool:
     """Whether a trace that was refused at its very start is a text: some thousand bytes without one that no text has."""
-    if answer.first not in ((0, 4), (1, 1), (0, 21)) or answer.name == INPUT:
+    if answer.first not in ((0, 4), (1, 1), (0, 21)) or not os.path.isfile(answer.name):
         return False
     try:
         start = read_file(answer.name, 4096)
         codecs.getincrementaldecoder("utf-8")().decode(start)  # its last letter may be cut
     except (OSError, UnicodeDecodeError):
         return False
-    return not TEXT_CONTROL.intersection(start)
+    return bool(start) and not TEXT_CONTROL.intersection(start)
 
 
 def grouped(names: list[bytes], jobs: int, most: int) -> list[list[bytes]]:

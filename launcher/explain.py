@@ -3,9 +3,9 @@ import re
 import textwrap
 from typing import Collection, Dict, Iterator, List, NamedTuple, Sequence, Tuple
 
-from launcher.checker import LONGEST_TRACE, Answer, Checker, Processes
+from launcher.checker import LONGEST_TRACE, Answer, Checker, Processes, looks_like_text
 from launcher.kinds import BY_BYTE, COMPLEMENT, MOST_BYTES, MOST_WARPS, REDUCTIONS, SIZE, steps, values_of
-from launcher.names import Names, said
+from launcher.names import Names, said, standard_input
 from launcher.options import Options
 from launcher.project import Project
 from launcher.report import Conclusion, Total
@@ -212,14 +212,14 @@ def explained(name: str, trace: bytes, text: bytes, sentences: Dict[int, Tuple[s
 
 def explain(options: Options, output: Output, root: str) -> int:
     """Explains every trace that is named. What is explained is read once, and what the checker is given is that."""
-    names = Names(options.words).names or [b"-"]
+    names = Names(options.words).names or [standard_input()]
     sentences, command = read_refusals(root), Project(root).command()
     summary, total = Conclusion(), Total()
     with Processes() as processes:
         checker = Checker(command, processes, keep_text=True)
         for name in names:
             answer = explain_one(name, checker, sentences, options.all, output)
-            summary.add(answer, lambda _: False)
+            summary.add(answer, looks_like_text)
             total.add(answer)
             output.flush()
     output.close()

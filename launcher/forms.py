@@ -3,6 +3,7 @@ from __future__ import annotations
 
 import json
 import os
+import re
 from typing import Any
 from xml.sax.saxutils import escape, quoteattr
 
@@ -11,6 +12,9 @@ from launcher.names import said
 from launcher.report import PLAIN, SUMMARY, Report, Total
 from launcher.sentences import said_of
 from launcher.streams import Output
+
+
+NO_XML = re.compile("[\ud800-\udfff\ufffe\uffff]")  # what no XML has: bytes that are no UTF-8 among it
 
 
 def warps_of(mask: int) -> list[int]:
@@ -66,16 +70,16 @@ class Junit(Report):
             inside = f"<error message={quoteattr('unreadable: ' + answer.fault)}/>"
         elif answer.first:
             step, number = answer.first
-            message = f"step {step} is refused by {number}: {said_of(step, self.sentences[number][0])}"
+            sentence = said_of(step, self.sentences.get(number, ("see the table",))[0])
+            message = f"step {step} is refused by {number}: {sentence}"
             count = f"{answer.refused} of {answer.accepted + answer.refused} steps are refused"
             inside = f'<failure type="{number}" message={quoteattr(message)}>{count}</failure>'
         if self.form != SUMMARY and answer.text:
             inside += f"<system-out>{escape(answer.text.decode())}</system-out>"
-        # XML has no sign for a byte that is no UTF-8
-        name = quoteattr(said(answer.name).encode("utf-8", "backslashreplace").decode())
+        name = quoteattr(NO_XML.sub(lambda found: f"\\u{ord(found[0]):04x}", said(answer.name)))
         self.cases.append(f'<testcase classname="glubotar" name={name}>{inside}</testcase>\n')
 
     def end(self, total: Total) -> None:
-        head = (f'<?xml version="1.0" encoding="UTF-8"?>\n<testsuite name="glubotar" tests="{total.traces}" '
+        head = (f'<?xml version="1.0" encoding="UTF-8"?>\n<testsuite name="glubotar" tests="{len(self.cases)}" '
                 f'failures="{total.failed}" errors="{total.unreadable}">\n')
         self.output.write((head + "".join(self.cases) + "</testsuite>\n").encode())

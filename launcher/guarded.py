@@ -7,6 +7,8 @@ import subprocess
 import threading
 from collections.abc import Iterator
 
+from launcher.signals import ENDING, held
+
 
 class Guarded:
     """The command's output, line by line, and then its exit status."""
@@ -33,25 +35,31 @@ def run_guarded(words: list[str], folder: str, environment: dict[str, str]) -> G
     output, output_end = os.pipe()
     told, tell = os.pipe()
     watched, alive = os.pipe()
-    guard = os.fork()  # a signal that ends this process between here and the first line ends the guard too
-    if guard:
+    with held():
+        guard = os.fork()
+        if not guard:
+            os.setsid()
+            for number in ENDING:
+                signal.signal(number, signal.SIG_DFL)
+            for descriptor in (output, told, alive):
+                os.close(descriptor)
+            keep_guard(words, folder, environment, output_end, tell, watched)
         for descriptor in (output_end, tell, watched):
             os.close(descriptor)
         return Guarded(guard, output, told, alive)
+
+
+def keep_guard(words: list[str], folder: str, environment: dict[str, str], output: int, tell: int, watched: int) -> None:
+    """All that the guard does; it never comes back."""
     try:
-        for descriptor in (output, told, alive):
-            os.close(descriptor)
-        os.setsid()
-        for number in (signal.SIGHUP, signal.SIGINT, signal.SIGTERM):
-            signal.signal(number, signal.SIG_DFL)
-        command = subprocess.Popen(words, cwd=folder, env=environment, stdin=subprocess.DEVNULL, stdout=output_end,
+        command = subprocess.Popen(words, cwd=folder, env=environment, stdin=subprocess.DEVNULL, stdout=output,
                                    stderr=subprocess.STDOUT)
-        os.close(output_end)
         threading.Thread(target=end_after, args=(watched,), daemon=True).start()
         os.write(tell, b"%d" % command.wait())
+    except OSError as error:
+        os.write(output, f"{words[0]} can't be started: {error.strerror}\n".encode())
     finally:
         os.killpg(0, signal.SIGKILL)
-    os._exit(2)
 
 
 def end_after(watched: int) -> None:

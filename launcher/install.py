@@ -27,6 +27,7 @@ def install(root: str, prefix: str) -> None:
     project = Project(root)
     if project.installed:
         raise Failure("this is an installed copy; install starts from the project's own folder")
+    os.umask(0o022)  # others are to run it too
     try:
         os.makedirs(os.path.join(prefix, "lib"), exist_ok=True)  # a wrong prefix is said before the build
         project.command()
@@ -35,26 +36,27 @@ def install(root: str, prefix: str) -> None:
         install_launcher(project, prefix)
         install_library(project, prefix)
     except OSError as error:
-        raise Failure(f"{error.filename or prefix} can't be written: {reason(error)}") from None
+        raise Failure(f"{os.fsdecode(error.filename or prefix)} can't be written: {reason(error)}") from None
 
 
 def install_launcher(project: Project, prefix: str) -> None:
     home = os.path.join(prefix, "lib", "glubotar")
-    fresh = f"{home}.{os.getpid()}.part"
+    fresh, old = (f"{home}.{os.getpid()}.{what}" for what in ("part", "old"))
     try:
         lay_home(project, fresh)
-        old = f"{home}.{os.getpid()}.old"
         if os.path.exists(home):
             os.rename(home, old)
         os.rename(fresh, home)
-        shutil.rmtree(old, ignore_errors=True)
     finally:
-        shutil.rmtree(fresh, ignore_errors=True)
+        if os.path.exists(old) and not os.path.exists(home):
+            os.rename(old, home)
+        for folder in (fresh, old):
+            shutil.rmtree(folder, ignore_errors=True)
     link = os.path.join(prefix, "bin", "glubotar")
+    beside = f"{link}.{os.getpid()}.part"
     os.makedirs(os.path.dirname(link), exist_ok=True)
-    if os.path.lexists(link):
-        os.unlink(link)
-    os.symlink(os.path.join("..", "lib", "glubotar", "glubotar"), link)
+    os.symlink(os.path.join("..", "lib", "glubotar", "glubotar"), beside)
+    os.replace(beside, link)
 
 
 def lay_home(project: Project, home: str) -> None:
@@ -69,7 +71,7 @@ def lay_home(project: Project, home: str) -> None:
             copy(os.path.join(modules, name), copied)
             py_compile.compile(copied, doraise=True)
     for name in sorted(set(os.listdir(project.checker)) - {RECORD}):
-        copy(os.path.join(project.checker, name), os.path.join(home, "checker", name))
+        copy(os.path.join(project.checker, name), os.path.join(home, "checker", os.path.basename(project.checker), name))
 
 
 def install_library(project: Project, prefix: str) -> None:

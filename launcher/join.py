@@ -5,11 +5,11 @@ import re
 from collections.abc import Iterator
 
 from launcher.checker import Answer
-from launcher.names import said
+from launcher.names import said, standard_input
 from launcher.report import Conclusion, Rows, SUMMARY, Total, total_columns
 from launcher.streams import Failure, Output, read_file, reason
 
-LINE = re.compile(rb"([^\t]*)\t(?:([0-9]+)\t([0-9]+)\t(?:-|([0-9]+):([0-9]+))|-\t-\tunreadable)")
+LINE = re.compile(rb"([^\t]*)\t(?:([0-9]{1,18})\t([0-9]{1,18})\t(?:-|([0-9]{1,18}):([0-9]{1,18}))|-\t-\tunreadable)")
 
 
 def answers_of(name: bytes) -> Iterator[Answer]:
@@ -28,7 +28,7 @@ def answers_of(name: bytes) -> Iterator[Answer]:
             total.add(answer)
             ended = False
             yield answer
-        elif line == b"\t".join(total_columns(total)):
+        elif total.traces and line == b"\t".join(total_columns(total)):
             total, ended = Total(), True
         else:
             raise broken
@@ -47,7 +47,7 @@ def join(names: list[bytes], output: Output) -> int:
     """Prints what all outputs hold, and answers the exit status of a run over all of their traces."""
     if names.count(b"-") > 1:
         raise Failure("standard input is named more than once")
-    answers = [answer for name in names or [b"-"] for answer in answers_of(name)]
+    answers = [answer for name in names or [standard_input()] for answer in answers_of(name)]
     report, conclusion, total = Rows(output, SUMMARY), Conclusion(), Total()
     for answer in answers:
         report.add(answer)

@@ -55,7 +55,8 @@ def one_name(options: Options, what: str) -> bytes:
     names = options.names()
     if len(names) > 1:
         raise Failure(f"one {what} at a time; see --help")
-    return names[0] if names else b"-"
+    from launcher.names import standard_input
+    return names[0] if names else standard_input()
 
 
 def contents(name: bytes) -> bytes:
@@ -68,7 +69,7 @@ def contents(name: bytes) -> bytes:
 
 def put(options: Options, output: Output, data: bytes) -> int:
     """Writes what a command made where -o says."""
-    if options.out == "-":
+    if options.out == "-" or is_output(options.out):
         output.write(data)
         output.close()
         return 0
@@ -77,6 +78,14 @@ def put(options: Options, output: Output, data: bytes) -> int:
     except OSError as error:
         raise Failure(f"{options.out} can't be written: {reason(error)}") from None
     return 0
+
+
+def is_output(name: str) -> bool:
+    """Whether a name is that of standard output, which may be a file that others write to as well."""
+    try:
+        return os.path.samestat(os.stat(name), os.fstat(1))
+    except OSError:
+        return False
 
 
 def help_of(command: str) -> bytes:

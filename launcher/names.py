@@ -22,6 +22,13 @@ def said(name: bytes) -> str:
     return os.fsdecode(shown(name))
 
 
+def standard_input() -> bytes:
+    """The name of standard input, where no other is given."""
+    if os.isatty(0):
+        raise Failure("nothing is named, and standard input is a terminal; see --help")
+    return b"-"
+
+
 class Names:
     """What some words name, each of them a `trace`, a list of lines (`from`) or one of names that end in NUL (`from0`)."""
 
@@ -37,6 +44,8 @@ class Names:
             inputs += word == b"-"
             self.listed = True
             for name in self.read_list(word, option == "from0"):
+                if name in self.unended and os.path.isdir(name):
+                    raise Failure(f"the list's last name has no end and is a folder, {said(name)}: was it cut? {said(word)}")
                 self.add(name)
         if inputs + self.names.count(b"-") > 1:
             raise Failure("standard input is named more than once")
@@ -75,7 +84,7 @@ class Names:
 
 def traces_in(folder: bytes) -> list[bytes]:
     try:
-        found = list(gone_through(folder, frozenset()))
+        found = list(gone_through(folder))
     except OSError as error:
         at = os.fsencode(error.filename) if error.filename else folder
         raise Failure(f"a folder can't be gone through: {said(at)}: {reason(error)}") from None
@@ -84,15 +93,23 @@ def traces_in(folder: bytes) -> list[bytes]:
     return found
 
 
-def gone_through(folder: bytes, above: frozenset[bytes]) -> Iterator[bytes]:
+def gone_through(folder: bytes) -> Iterator[bytes]:
     """The files *.trace in a folder and in those inside it, in the order of their names. Links are followed, but not in a circle."""
-    place = os.path.realpath(folder)
-    if place in above:
-        return
-    with os.scandir(folder) as entries:
-        inside = sorted(entries, key=lambda entry: entry.name)
-    for entry in inside:
-        if entry.is_dir():
-            yield from gone_through(entry.path, above | {place})
+    above = [(os.path.realpath(folder), entries_of(folder))]
+    while above:
+        entry = next(above[-1][1], None)
+        if entry is None:
+            above.pop()
+        elif entry.is_dir():
+            place = os.path.realpath(entry.path)
+            if place not in [other for other, _ in above]:
+                above.append((place, entries_of(entry.path)))
         elif entry.name.endswith(b".trace"):
             yield entry.path
+        elif entry.is_symlink() and not os.path.exists(entry.path):
+            raise Failure(f"a link leads nowhere: {said(entry.path)}")
+
+
+def entries_of(folder: bytes) -> Iterator[os.DirEntry[bytes]]:
+    with os.scandir(folder) as entries:
+        return iter(sorted(entries, key=lambda entry: entry.name))

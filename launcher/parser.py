@@ -4,19 +4,22 @@ from __future__ import annotations
 import argparse
 import os
 import re
+from collections.abc import Iterator
 from typing import Any, NoReturn
 
+from launcher.names import said
 from launcher.options import Options
 from launcher.streams import Failure
 
-WITH_VALUE = ("--format", "--from", "--from0", "-j", "--jobs", "-o", "--prefix")
+WITH_VALUE = ("--format", "-j", "--jobs", "-o", "--prefix")
+LISTS = {"--from": "from", "--from0": "from0"}
 
 
 class Parser(argparse.ArgumentParser):
     """Options in any place. A mistake is one sentence."""
 
     def error(self, message: str) -> NoReturn:
-        raise Failure(f"{message}; see --help")
+        raise Failure(f"{said(os.fsencode(message))}; see --help")
 
 
 class Form(argparse.Action):
@@ -28,16 +31,9 @@ class Form(argparse.Action):
         options.form = self.const
 
 
-class Word(argparse.Action):
-    """A trace, or a list of traces: they count in the order in which they are named."""
-
-    def __call__(self, parser: Any, options: Any, value: Any, option: Any = None) -> None:
-        options.words.append((self.const, os.fsencode(value)))
-
-
 def jobs(text: str) -> int:
     if not re.fullmatch("[1-9][0-9]{0,3}", text):
-        raise Failure(f"--jobs wants a number from 1 to 9999, not {text}")
+        raise Failure(f"--jobs wants a number from 1 to 9999, not {said(os.fsencode(text))}")
     return int(text)
 
 
@@ -45,15 +41,12 @@ def parser_of(command: str) -> Parser:
     parser = Parser(prog="glubotar", add_help=False, allow_abbrev=False)
     add = parser.add_argument
     add("-h", "--help", action="store_true")
-    add("--trace", action=Word, const="trace", dest="words")  # how a word that is no option is handed on
     if command == "check":
         add("--version", action="store_true")
         add("--lines", action=Form, nargs=0, const="lines", dest="form")
         add("--summary", action=Form, nargs=0, const="summary", dest="form")
         add("--failed", action="store_true")
         add("--format", choices=("text", "tsv", "json", "junit"))
-        add("--from", action=Word, const="from", dest="words")
-        add("--from0", action=Word, const="from0", dest="words")
         add("-j", "--jobs", type=jobs)
     elif command == "explain":
         add("--all", action="store_true")
@@ -66,27 +59,30 @@ def parser_of(command: str) -> Parser:
     return parser
 
 
-def as_options(words: list[str]) -> list[str]:
-    """The words with each that is no option, and no option's value, handed on as an option too."""
-    options: list[str] = []
-    rest = iter(words)
-    for word in rest:
-        if word == "--":
-            return options + ["--trace=" + name for name in rest]
-        if word in WITH_VALUE:
-            value = next(rest, None)
-            if value is None:
-                raise Failure(f"{word} wants a value; see --help")
-            options.append(f"{word}={value}" if word.startswith("--") else word + value)
-        elif word.startswith("-") and word != "-":
-            options.append(word)
-        else:
-            options.append("--trace=" + word)
-    return options
+def value_of(option: str, rest: Iterator[str]) -> str:
+    """The word after an option, which is its value."""
+    value = next(rest, "--")
+    if value == "--":
+        raise Failure(f"{option} wants a value; see --help")
+    return value
 
 
 def parse(command: str, words: list[str], options: Options) -> None:
-    """Sets the options that the words give."""
-    _, unknown = parser_of(command).parse_known_args(as_options(words), options)
+    """Sets what the words say. Names and lists of names count in the order in which they stand; the rest is for argparse."""
+    flags: list[str] = []
+    rest = iter(words)
+    for word in rest:
+        option, equals, value = word.partition("=")
+        if word == "--":
+            options.words += [("trace", os.fsencode(name)) for name in rest]
+        elif word == "-" or not word.startswith("-"):
+            options.words.append(("trace", os.fsencode(word)))
+        elif command == "check" and option in LISTS:
+            options.words.append((LISTS[option], os.fsencode(value if equals else value_of(word, rest))))
+        elif word in WITH_VALUE:
+            flags.append(word + ("=" if word.startswith("--") else "") + value_of(word, rest))
+        else:
+            flags.append(word)
+    _, unknown = parser_of(command).parse_known_args(flags, options)
     if unknown:
-        raise Failure(f"there is no option {unknown[0]}; see --help (a trace of that name goes after --)")
+        raise Failure(f"there is no option {said(os.fsencode(unknown[0]))}; see --help (a trace of that name goes after --)")

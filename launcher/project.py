@@ -3,7 +3,7 @@ from __future__ import annotations
 
 import os
 
-from launcher.streams import read_file, write_whole
+from launcher.streams import Failure, read_file, write_whole
 
 PROGRAM, LOADER, EMULATOR, RECORD = "program", "ld-linux-x86-64.so.2", "qemu-x86_64", "sources"
 
@@ -15,12 +15,15 @@ class Project:
         self.root = root
         self.installed = not os.path.exists(os.path.join(root, "crates.txt"))
         self.target = os.path.join(root, "target")
-        self.checker = os.path.join(root if self.installed else self.target, "checker")
+        checkers = os.path.join(root if self.installed else self.target, "checker")
+        self.checker = os.path.join(checkers, os.uname().machine)  # machines of several kinds may share the folder
         self.record = os.path.join(self.checker, RECORD)
 
     def command(self) -> list[str]:
         """The words that start the checker, which is built first where it has to be: its own loader and, where the processor
         needs one, an emulator."""
+        if self.installed and not os.path.isdir(self.checker):
+            raise Failure(f"this copy has no checker for a machine of this kind: {self.checker} is missing")
         if not self.installed and not self.is_built():
             from launcher.build import build_once
             build_once(self)
@@ -43,12 +46,13 @@ class Project:
     def places(self) -> list[str]:
         """The sources, and what was built of them."""
         kept = sorted(set(os.listdir(self.checker)) - {RECORD})
-        return self.sources() + [os.path.join("target", "checker", name) for name in kept]
+        folder = os.path.relpath(self.checker, self.root)
+        return self.sources() + [os.path.join(folder, name) for name in kept]
 
     def times(self, places: list[str]) -> str:
         """Changes with every place that is written, made or removed: a folder's time tells of its files."""
         before = self.root + os.sep
-        stats = [os.stat(before + place) for place in places]
+        stats = [os.lstat(before + place) for place in places]
         return " ".join([f"{stat.st_size} {stat.st_mtime_ns} {stat.st_ino}" for stat in stats])
 
     def content(self, places: list[str]) -> str:
@@ -75,12 +79,13 @@ class Project:
             pass  # something is gone or has moved
         try:
             places = self.places()
+            times = self.times(places)  # before the bytes are read: what is written after that is seen the next time
             if self.content(places) != content:
                 return False
         except OSError:
             return False
         try:
-            self.write_record(places)
+            self.write_record(content, times, places)
         except OSError:
             pass  # a read-only folder: the bytes are compared each time
         return True
@@ -92,6 +97,5 @@ class Project:
             return None
         return content, times, places
 
-    def write_record(self, places: list[str]) -> None:
-        lines = [self.content(places), self.times(places), *places]
-        write_whole(os.fsencode(self.record), os.fsencode("\n".join(lines)))
+    def write_record(self, content: str, times: str, places: list[str]) -> None:
+        write_whole(os.fsencode(self.record), os.fsencode("\n".join([content, times, *places])))

@@ -6,6 +6,8 @@ from collections.abc import Callable, Iterator
 from concurrent.futures import Future, ThreadPoolExecutor
 from typing import TypeVar
 
+from launcher.streams import Failure
+
 Item = TypeVar("Item")
 Result = TypeVar("Result")
 
@@ -19,7 +21,10 @@ def in_order(work: Callable[[Item], Result], items: list[Item], jobs: int) -> It
         for item in items:
             if len(begun) == 2 * jobs:
                 yield begun.popleft().result()
-            begun.append(pool.submit(work, item))
+            try:
+                begun.append(pool.submit(work, item))
+            except RuntimeError as error:  # no thread can be started
+                raise Failure(f"{jobs} jobs can't run side by side: {error}; see --jobs") from None
         while begun:
             yield begun.popleft().result()
     finally:

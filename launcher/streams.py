@@ -1,11 +1,15 @@
 """What the launcher reads and writes: every write is checked, and a failure is a sentence."""
 from __future__ import annotations
 
+import contextlib
+import errno
 import os
 import stat
+import sys
 
-OUTPUT, ERRORS = 1, 2  # the descriptors
-HELD = 1 << 16         # bytes of output that wait to be written together
+INPUT, OUTPUT, ERRORS = 0, 1, 2  # the descriptors
+HELD = 1 << 16   # bytes of output that wait to be written together
+PIECE = 1 << 18  # bytes that are read at a time
 
 
 class Failure(Exception):
@@ -24,18 +28,35 @@ def reason(error: OSError) -> str:
 
 
 def fill_closed_streams() -> None:
-    """Gives the numbers 0 to 2 to nothing else where they are closed. What is written there still fails."""
-    for number in (0, OUTPUT, ERRORS):
+    """Gives the numbers 0 to 2 to nothing else where they are closed. To read or to write there still fails."""
+    for number in (INPUT, OUTPUT, ERRORS):
         try:
             os.fstat(number)
         except OSError:
-            os.open(os.devnull, os.O_RDONLY)  # takes the lowest free number
+            os.open(os.devnull, os.O_RDONLY if number else os.O_WRONLY)  # takes the lowest free number
 
 
 def write_all(descriptor: int, data: bytes) -> None:
     view = memoryview(data)
     while view:
-        view = view[os.write(descriptor, view):]
+        try:
+            view = view[os.write(descriptor, view):]
+        except BlockingIOError:  # whoever started this made it so
+            wait_for(descriptor, to_read=False)
+
+
+def read_some(descriptor: int, most: int) -> bytes:
+    """Some bytes of what can be read, or none at its end."""
+    while True:
+        try:
+            return os.read(descriptor, most)
+        except BlockingIOError:
+            wait_for(descriptor, to_read=True)
+
+
+def wait_for(descriptor: int, to_read: bool) -> None:
+    import select
+    select.select([descriptor] if to_read else [], [] if to_read else [descriptor], [])
 
 
 class Progress:
@@ -118,34 +139,62 @@ class Output:
             raise Failure(f"the output can't be written: {reason(error)}") from None
 
 
-def read_file(name: bytes, most: int = -1) -> bytes:
+def read_file(name: bytes, most: int = sys.maxsize) -> bytes:
     """The bytes of a file, or its first ones; - is standard input."""
-    with open(0 if name == b"-" else name, "rb", closefd=name != b"-") as source:
-        return source.read(most)
-
-
-def write_whole(target: bytes, data: bytes, mode: int = 0o666) -> None:
-    """Writes a file whole or not at all: beside its place, and then moved there. Raises OSError."""
+    descriptor = INPUT if name == b"-" else os.open(name, os.O_RDONLY)
     try:
-        found = os.stat(target)
-    except FileNotFoundError:
-        pass
-    else:
-        mode = stat.S_IMODE(found.st_mode)
-        if not stat.S_ISREG(found.st_mode):  # a pipe or a device is only written to
-            with open(target, "wb", buffering=0) as device:
-                write_all(device.fileno(), data)
-            return
+        pieces = []
+        while most > 0:
+            piece = read_some(descriptor, min(most, PIECE))
+            if not piece:
+                break
+            pieces.append(piece)
+            most -= len(piece)
+        return b"".join(pieces)
+    finally:
+        if name != b"-":
+            os.close(descriptor)
+
+
+def write_whole(target: bytes, data: bytes, mode: int | None = None) -> None:
+    """Writes a file whole or not at all: beside its place, and then moved there. Raises OSError. A file that is there keeps its
+    mode where none is given."""
+    if target.endswith(b"/"):
+        raise IsADirectoryError(errno.EISDIR, os.strerror(errno.EISDIR), target)
+    if is_special(target):
+        with open(target, "wb", buffering=0) as device:
+            write_all(device.fileno(), data)
+        return
+    import tempfile
     target = os.path.realpath(target)  # a link stays one
-    beside = target + b".%d.part" % os.getpid()
-    descriptor = os.open(beside, os.O_WRONLY | os.O_CREAT | os.O_EXCL, mode)
+    descriptor, beside = tempfile.mkstemp(dir=os.path.dirname(target), prefix=b".glubotar.")
     try:
         try:
             write_all(descriptor, data)
+            os.fchmod(descriptor, mode_of(target) if mode is None else mode)
             os.fsync(descriptor)
         finally:
             os.close(descriptor)
         os.rename(beside, target)
     except BaseException:
-        os.unlink(beside)
+        with contextlib.suppress(FileNotFoundError):
+            os.unlink(beside)
         raise
+
+
+def is_special(target: bytes) -> bool:
+    """Whether there is something that is no file, as a pipe or a device: it can only be written to."""
+    try:
+        return not stat.S_ISREG(os.stat(target).st_mode)
+    except FileNotFoundError:
+        return False
+
+
+def mode_of(target: bytes) -> int:
+    """The mode of a file, or the one that a new file gets."""
+    try:
+        return stat.S_IMODE(os.stat(target).st_mode)
+    except FileNotFoundError:
+        mask = os.umask(0)
+        os.umask(mask)
+        return 0o666 & ~mask

@@ -46,6 +46,7 @@ class WithKit(Launching):
         (self.repository / "crates/glubotar/main.rt").write_text("source\n")
         self.launcher = self.repository / "glubotar"
         self.target = self.repository / "target"
+        self.checker = self.target / "checker" / MACHINE
         self.script(self.kit / "program", PROGRAM)
         self.script(self.kit / "on" / MACHINE / "toolchain/lib/ld-linux-x86-64.so.2", LOADER)
         self.script(self.kit / "bin/rt", RT.format(kit=self.kit))
@@ -118,7 +119,7 @@ class Build(WithKit):
         self.rt_does("exit 1")  # no build, or it fails
         (self.repository / "crates/glubotar/must-fail/wrong.edit").write_text("edit\n")
         self.due(self.go("plain"), 0, PLAIN)
-        for place in [self.repository / "crates.txt", *self.repository.glob("crates/**/*"), *self.target.glob("checker/*")]:
+        for place in [self.repository / "crates.txt", *self.repository.glob("crates/**/*"), *self.checker.glob("*")]:
             os.utime(place, (1, 1))
         self.due(self.go("plain"), 0, PLAIN)
         moved = self.work / "moved"
@@ -141,10 +142,10 @@ class Build(WithKit):
             "a new file": lambda: (self.repository / "crates/glubotar/new.rt").write_text(""),
             "a file less": lambda: (self.repository / "crates/glubotar/new.rt").unlink(),
             "a new name": lambda: main.rename(main.with_name("other.rt")),
-            "the checker cut": lambda: (self.target / "checker/program").write_text("#!/bin/sh\n"),
-            "the checker gone": lambda: (self.target / "checker/program").unlink(),
-            "the record gone": lambda: (self.target / "checker/sources").unlink(),
-            "the record cut": lambda: (self.target / "checker/sources").write_text("0"),
+            "the checker cut": lambda: (self.checker / "program").write_text("#!/bin/sh\n"),
+            "the checker gone": lambda: (self.checker / "program").unlink(),
+            "the record gone": lambda: (self.checker / "sources").unlink(),
+            "the record cut": lambda: (self.checker / "sources").write_text("0"),
             "all gone": lambda: shutil.rmtree(self.target),
         }
         for name, change in changes.items():
@@ -229,7 +230,7 @@ class Checkers(WithKit):
                     self.assertIn("glubotar: the checker", ran.err)
 
     def test_a_checker_that_cannot_be_started(self):
-        loader = self.target / "checker/ld-linux-x86-64.so.2"
+        loader = self.checker / "ld-linux-x86-64.so.2"
         loader.chmod(0o644)
         self.assertEqual(self.go("plain").status, 2)
 

@@ -49,7 +49,7 @@ class OneTrace(Launching):
 
     def test_input_that_cannot_be_read(self):
         with open(self.work / "written", "wb") as writing:
-            self.due(self.run_it(stdin=writing), 2, b"", "standard input: ", "glubotar: unreadable: -: bad file descriptor\n")
+            self.due(self.run_it(stdin=writing), 2, b"", "glubotar: unreadable: -: bad file descriptor\n")
             self.due(self.run_it("-", GOOD, stdin=writing), 2, miss_row("-") + good_row() + total(2, 10, 0, 1, 0), "unreadable: -")
         folder = os.open(ROOT, os.O_RDONLY)
         self.addCleanup(os.close, folder)

@@ -75,7 +75,7 @@ class Launching(unittest.TestCase):
         self.environment: Dict[str, str] = dict(os.environ, TMPDIR=str(self.scratch))
 
     def words(self, *words: Word) -> List[Word]:
-        return [sys.executable, "-I", "-S", self.launcher, *words]
+        return [sys.executable, "-I", "-S", "-X", "utf8", self.launcher, *words]
 
     def run_it(self, *words: Word, data: Optional[bytes] = b"", cwd: pathlib.Path = ROOT, **others: object) -> Ran:
         if data is not None and "stdin" not in others:
