@@ -7,7 +7,7 @@ import shutil
 
 from launcher import VERSION
 from launcher.build import lock, run_rt
-from launcher.project import RECORD, Project
+from launcher.project import Project
 from launcher.streams import Failure, read_file, reason, write_whole
 
 ARCHIVE = "libglubotar_c.a"
@@ -70,7 +70,7 @@ def lay_home(project: Project, home: str) -> None:
             copied = os.path.join(home, "launcher", name)
             copy(os.path.join(modules, name), copied)
             py_compile.compile(copied, doraise=True)
-    for name in sorted(set(os.listdir(project.checker)) - {RECORD}):
+    for name in sorted(os.listdir(project.checker)):
         copy(os.path.join(project.checker, name), os.path.join(home, "checker", os.path.basename(project.checker), name))
 
 

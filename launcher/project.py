@@ -5,7 +5,7 @@ import os
 
 from launcher.streams import Failure, read_file, write_whole
 
-PROGRAM, LOADER, EMULATOR, RECORD = "program", "ld-linux-x86-64.so.2", "qemu-x86_64", "sources"
+PROGRAM, LOADER, EMULATOR = "program", "ld-linux-x86-64.so.2", "qemu-x86_64"
 
 
 class Project:
@@ -17,7 +17,7 @@ class Project:
         self.target = os.path.join(root, "target")
         checkers = os.path.join(root if self.installed else self.target, "checker")
         self.checker = os.path.join(checkers, os.uname().machine)  # machines of several kinds may share the folder
-        self.record = os.path.join(self.checker, RECORD)
+        self.record = self.checker + ".sources"
 
     def command(self) -> list[str]:
         """The words that start the checker, which is built first where it has to be: its own loader and, where the processor
@@ -45,9 +45,8 @@ class Project:
 
     def places(self) -> list[str]:
         """The sources, and what was built of them."""
-        kept = sorted(set(os.listdir(self.checker)) - {RECORD})
         folder = os.path.relpath(self.checker, self.root)
-        return self.sources() + [os.path.join(folder, name) for name in kept]
+        return self.sources() + [folder] + [os.path.join(folder, name) for name in sorted(os.listdir(self.checker))]
 
     def times(self, places: list[str]) -> str:
         """Changes with every place that is written, made or removed: a folder's time tells of its files."""

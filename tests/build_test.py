@@ -9,9 +9,10 @@ import signal
 import subprocess
 import time
 import unittest
+import unittest.mock
 
 from launching import ROOT, Launching, limits, permissions, row, total
-from launcher import project
+from launcher import checker, project, signals
 from launcher.build import build_once
 from launcher.streams import Failure
 
@@ -19,7 +20,9 @@ MACHINE = os.uname().machine
 PROGRAM = """#!/bin/sh
 all=$*
 [ ${#all} -le 102400 ] || exit 3
+[ $# -gt 0 ] || . ./on_input
 for name; do
+    [ "$name" != stops ] || exit 0
     echo "file $name"
     . "./$name"
 done
@@ -41,6 +44,8 @@ class WithKit(Launching):
         self.repository = self.work / "the repository"
         shutil.copytree(ROOT / "launcher", self.repository / "launcher", ignore=shutil.ignore_patterns("__pycache__"))
         shutil.copy(ROOT / "glubotar", self.repository)
+        (self.repository / "docs").mkdir()
+        shutil.copy(ROOT / "docs/TRACES.md", self.repository / "docs")
         (self.repository / "crates/glubotar/must-fail").mkdir(parents=True)
         (self.repository / "crates.txt").write_text("walks:\nfolds:\ntext: folds\nglubotar: text walks io\nother: folds\n")
         (self.repository / "crates/glubotar/main.rt").write_text("source\n")
@@ -132,20 +137,28 @@ class Build(WithKit):
         main = self.repository / "crates/glubotar/main.rt"
         stamps = main.stat()
 
-        def same_size_and_time():
+        def later():
             main.write_text("sourcE\n")
             os.utime(main, ns=(stamps.st_atime_ns, stamps.st_mtime_ns + 1))
 
+        def at_the_same_time(text, path):
+            path.write_text(text)
+            os.utime(path, ns=(stamps.st_atime_ns, main.stat().st_mtime_ns))
+            path.rename(main)
+
         changes = {
             "crates.txt": lambda: (self.repository / "crates.txt").write_text("glubotar: folds\n"),
-            "a source": same_size_and_time,
+            "a source": later,
+            "a source of another size and the same time": lambda: at_the_same_time("longer source\n", main),
+            "a source of the same size and time": lambda: at_the_same_time("longer sourcE\n", main.with_name("other")),
+            "a stray file": lambda: (self.checker / "stray").write_text(""),
             "a new file": lambda: (self.repository / "crates/glubotar/new.rt").write_text(""),
             "a file less": lambda: (self.repository / "crates/glubotar/new.rt").unlink(),
             "a new name": lambda: main.rename(main.with_name("other.rt")),
             "the checker cut": lambda: (self.checker / "program").write_text("#!/bin/sh\n"),
             "the checker gone": lambda: (self.checker / "program").unlink(),
-            "the record gone": lambda: (self.checker / "sources").unlink(),
-            "the record cut": lambda: (self.checker / "sources").write_text("0"),
+            "the record gone": lambda: (self.checker.with_suffix(".sources")).unlink(),
+            "the record cut": lambda: (self.checker.with_suffix(".sources")).write_text("0"),
             "all gone": lambda: shutil.rmtree(self.target),
         }
         for name, change in changes.items():
@@ -153,6 +166,31 @@ class Build(WithKit):
                 change()
                 self.due(self.go("plain"), 0, PLAIN, BUILT)
                 self.due(self.go("plain"), 0, PLAIN)
+        self.assertFalse((self.checker / "stray").exists())
+
+    def test_a_link_that_an_editor_leaves(self):
+        (self.repository / "crates/glubotar/.#main.rt").symlink_to("somebody@somewhere")
+        self.due(self.go("plain"), 0, PLAIN, BUILT)
+        self.due(self.go("plain"), 0, PLAIN)
+
+    def test_a_source_that_changes_behind_the_record(self):
+        self.due(self.go("plain"), 0, PLAIN, BUILT)
+        here = project.Project(str(self.repository))
+        main = self.repository / "crates/glubotar/main.rt"
+        os.utime(main, (1, 1))
+        write_record = here.write_record
+
+        def save_first(*record):
+            main.write_text("another\n")
+            write_record(*record)
+
+        with unittest.mock.patch.object(here, "write_record", save_first):
+            self.assertTrue(here.is_built())  # it was, when it was looked at
+        self.assertFalse(here.is_built())
+
+    def test_a_kit_that_does_not_start(self):
+        self.script(self.kit / "bin/rt", "no script")
+        self.due(self.go("plain"), 2, b"", "the build failed", "rt can't be started: ")
 
     def test_a_read_only_folder(self):
         self.due(self.go("plain"), 0, PLAIN, BUILT)
@@ -203,6 +241,9 @@ class Checkers(WithKit):
         self.due(self.go("--jobs", "1", "--from", listed), 0, row(name, 0, 0, "-") * 200 + total(200, 0, 0, 0, 0))
 
     def test_a_checker_that_dies_at_trace_k(self):
+        self.trace("stops", "")
+        self.due(self.go("-j1", "plain", "stops", "plain"), 2, row("plain", 0, 0, "-"), "the checker broke off at stops\n")
+        self.due(self.go("stops"), 2, b"", "the checker broke off at stops\n")
         for how in ("echo 1 ok 0 0 00000000; exit 0", "exit 0", "kill -KILL $$", "echo 1 ok 0 0 00000000; echo end 1 0; exit 1"):
             self.trace("broken", how)
             for jobs in ("1", "3"):
@@ -221,13 +262,31 @@ class Checkers(WithKit):
 
     def test_a_checker_that_says_something_else(self):
         for name, text in {"more": "echo end 0 0; echo end 0 0", "another": "echo unreadable plain", "lines lost": "echo 1 ok; echo end 2 0",
-                           "no numbers": "echo 1 ok; echo end one 0", "no refusal": "echo 1 ok; echo end 0 1", "nothing": "true"}.items():
+                           "no numbers": "echo 1 ok; echo end one 0", "no refusal": "echo 1 ok; echo end 0 1", "nothing": "true",
+                           "refusals taken for accepted": "echo 1 no 5; echo 2 no 5; echo end 2 0"}.items():
             with self.subTest(says=name):
                 self.trace("odd", text)
                 for words in (["odd"], ["odd", "plain"], ["plain", "odd"]):
                     ran = self.go("-j1", *words)
                     self.assertEqual((ran.status, ran.out.count(b"odd\t")), (2, 0))
                     self.assertIn("glubotar: the checker", ran.err)
+
+    def test_the_same_of_standard_input(self):
+        for says in ("exit 0", "echo 1 ok; exit 0", "echo end 0 0; exit 1", "echo end 0 0; echo end 0 0", "kill -9 $$"):
+            self.trace("on_input", says)
+            for command in ((), ("-", "plain"), ("explain",)):
+                with self.subTest(says=says, command=command):
+                    ran = self.go(*command, data=b"\1")
+                    self.assertEqual((ran.status, ran.out), (2, b""))
+                    self.assertIn("the checker broke off at -\n", ran.err)
+        self.trace("on_input", "echo end 0 0")
+        self.due(self.go(data=b"\1"), 0, PLAIN)
+
+    def test_more_jobs_than_there_can_be(self):
+        self.file("list", b"plain\n" * 3000)
+        ran = self.go("-j", "500", "--from", "list", preexec_fn=limits(resource.RLIMIT_AS, 400 << 20))
+        if ran.status:
+            self.assertEqual((ran.status, ran.err.count("Traceback")), (2, 0))
 
     def test_a_checker_that_cannot_be_started(self):
         loader = self.checker / "ld-linux-x86-64.so.2"
@@ -288,6 +347,27 @@ class Interrupts(WithKit):
         self.rt_does(f"sleep 60 & echo $! >'{self.work}/hanging'; {self.builds}")
         self.due(self.go("plain"), 0, PLAIN, BUILT)
         self.assertTrue(self.awaited(lambda: not is_there(int((self.work / "hanging").read_text()))))
+
+    def test_a_signal_waits_for_what_must_be_whole(self):
+        heeded = {number: signal.getsignal(number) for number in signals.ENDING}
+        try:
+            signals.heed()
+            done = []
+            with self.assertRaises(signals.Interrupted) as interrupted:
+                with signals.held():
+                    os.kill(os.getpid(), signal.SIGTERM)
+                    done.append("whole")
+            os.kill(os.getpid(), signal.SIGINT)  # once is enough
+        finally:
+            signals.State.held.clear()
+            for number, handler in heeded.items():
+                signal.signal(number, handler)
+        self.assertEqual((done, interrupted.exception.number), (["whole"], signal.SIGTERM))
+
+    def test_nothing_starts_once_all_is_over(self):
+        with checker.Processes() as processes:
+            pass
+        self.assertRaises(Failure, processes.start, [b"/bin/true"], False)
 
     def test_an_ignored_signal_stays_ignored(self):
         self.go("plain")

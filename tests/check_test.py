@@ -3,12 +3,14 @@ import json
 import os
 import resource
 import subprocess
+import time
 import unittest
+import unittest.mock
 import xml.etree.ElementTree as ElementTree
 
 from launching import (EXAMPLE_ROWS, EXAMPLE_TOTAL, EXAMPLES, GLUBOTAR, GOOD, GOOD_TEXT, ROOT, WRONG, WRONG_TEXT,
-                       Launching, good_row, limits, miss_row, permissions, row, total, wrong_row)
-from launcher import checker, names, project
+                       Launching, Ran, good_row, limits, miss_row, permissions, row, total, wrong_row)
+from launcher import checker, names, project, streams
 from launcher.streams import Failure
 
 
@@ -107,6 +109,19 @@ class SeveralTraces(Launching):
         self.due(self.run_it("b", cwd=self.work), 2, good_row("b/1.trace") + good_row("b/deep/2.trace")
                  + miss_row("b/gone.trace") + total(3, 20, 0, 1, 0), "b/gone.trace: no such file")
 
+    def test_a_deep_folder(self):
+        deep = self.work
+        for _ in range(120):
+            deep = deep / "0123456789"
+        deep.mkdir(parents=True)
+        (deep / "1.trace").write_bytes((ROOT / GOOD).read_bytes())
+        self.due(self.run_it(self.work), 0, good_row(deep / "1.trace") + total(1, 10, 0, 0, 0))
+
+    def test_a_folder_with_a_link_that_leads_nowhere(self):
+        (self.work / "a.trace").write_bytes((ROOT / GOOD).read_bytes())
+        (self.work / "share").symlink_to("/no such share")
+        self.due(self.run_it(self.work), 2, b"", f"a link leads nowhere: {self.work / 'share'}\n")
+
     def test_a_folder_that_hides_something(self):
         (self.work / "empty").mkdir()
         self.due(self.run_it(GOOD, self.work / "empty"), 2, b"", "no *.trace is in the folder ")
@@ -151,6 +166,10 @@ class SeveralTraces(Launching):
             self.assertIn("looks like a text", self.run_it(self.file("text", data)).err)
         for data in (b"\xff\1\2", b"", b"warps\0"):
             self.assertNotIn("looks like a text", self.run_it(self.file("none", data)).err)
+        os.mkfifo(self.work / "pipe")
+        with subprocess.Popen(["sh", "-c", f"echo warps 2 >'{self.work}/pipe'"]):
+            self.due(self.run_it(self.work / "pipe"), 1, b"0 no 4\nend 0 1\n", "refused")
+        self.assertIn("looks like a text", self.run_it("explain", WRONG + ".txt").err)
 
 
 class TheProgramAlone(Launching):
@@ -180,12 +199,12 @@ class Names(Launching):
                 self.due(self.run_it("--", name, name, cwd=self.work), 0, good_row(name) * 2 + total(2, 20, 0, 0, 0))
 
     def test_tabs_and_line_ends(self):
-        odd = ["two\tcolumns", "two\nlines", "\x1b[31m", "x\nend 9 9\nfile y"]
-        shown = [b"two\\tcolumns", b"two\\nlines", b"\\x1b[31m", b"x\\nend 9 9\\nfile y"]
+        odd = ["two\tcolumns", "two\nlines", "\x1b[31m", "x\nend 9 9\nfile y", "\x7f\r"]
+        shown = [b"two\\tcolumns", b"two\\nlines", b"\\x1b[31m", b"x\\nend 9 9\\nfile y", b"\\x7f\\r"]
         for name in odd:
             self.file(name, (ROOT / WRONG).read_bytes())
         ran = self.run_it(*odd, cwd=self.work)
-        self.due(ran, 1, b"".join(map(wrong_row, shown)) + total(4, 8, 4, 0, 4), "two\\tcolumns 3:14, and 3 more")
+        self.due(ran, 1, b"".join(map(wrong_row, shown)) + total(5, 10, 5, 0, 5), "two\\tcolumns 3:14, and 4 more")
         joined = self.run_it("join", data=ran.out)
         self.assertEqual((joined.status, joined.out), (1, ran.out))
         listed = self.file("list", b"".join(name.encode() + b"\0" for name in odd))
@@ -194,6 +213,13 @@ class Names(Launching):
         exact = self.run_it("--format", "json", "--summary", *odd, cwd=self.work).out.splitlines()[:-1]
         self.assertEqual([json.loads(line)["trace"] for line in exact], odd)
         self.due(self.run_it(odd[3], cwd=self.work), 1, WRONG_TEXT, "refused")
+
+    def test_the_longest(self):
+        self.file("a", (ROOT / GOOD).read_bytes())
+        longest = "./" * 2047 + "a"
+        self.due(self.run_it(longest, cwd=self.work), 0, GOOD_TEXT)
+        self.due(self.run_it("." + "/" + longest, longest, cwd=self.work), 2, miss_row("./" + longest) + good_row(longest)
+                 + total(2, 10, 0, 1, 0), "its name is too long")
 
     def test_started_by_a_link_from_another_folder(self):
         (self.work / "link").symlink_to(GLUBOTAR)
@@ -231,6 +257,8 @@ class Lists(Launching):
         self.assertEqual(ran.status, 2)
         self.assertIn("examples/whole_case.t: no such file; was the list cut? -", ran.err)
         self.assertEqual(ran.out.count(b"\n"), len(EXAMPLES) + 1)
+        ran = self.run_it("--from", "-", data=f"{GOOD}\nexamples/".encode())
+        self.due(ran, 2, b"", "the list's last name has no end and is a folder, examples/: was it cut? -")
         by_nul = whole.replace(b"\n", b"\0")
         self.due(self.run_it("--from0", "-", data=by_nul[:-1]), 2, b"", "the list is cut: its last name, examples/whole_case.trace")
 
@@ -238,7 +266,8 @@ class Lists(Launching):
 class BadUse(Launching):
     def test_options(self):
         for words in ("--nothing", "-x", "--jobs", "--jobs=0", "--jobs=-1", "--jobs=two", "--jobs=08", "--jobs=10000",
-                      "--from", "--format", "--format=xml", "--join", "--line", "--lines=2"):
+                      "--from", "--format", "--format=xml", "--join", "--line", "--lines=2", "--trace=x", "--jobs=1\n\x1b[31m",
+                      "--x\n\x1b[31m"):
             with self.subTest(words=words):
                 ran = self.run_it(GOOD, words)
                 self.assertEqual((ran.status, ran.out), (2, b""))
@@ -250,9 +279,12 @@ class BadUse(Launching):
         self.due(self.run_it("", GOOD), 2, b"", "a name is empty")
         self.due(self.run_it("-", GOOD, "-"), 2, b"", "standard input is named more than once")
         self.due(self.run_it("-", "--from", "-"), 2, b"", "standard input is named more than once")
+        for words, part in ((["--", "--"], "--: no such file"), (["--from=--"], "can't be read: --: no such file"),
+                            (["--from", "--"], "--from wants a value"), (["show", "-o", "--", WRONG], "-o wants a value")):
+            self.due(self.run_it(*words), 2, b"", part)
 
     def test_help_and_version(self):
-        for words in (["--help"], ["-h"], ["check", "--help"], [GOOD, "-h"]):
+        for words in (["--help"], ["-h"], ["help"], ["check", "--help"], [GOOD, "-h"]):
             ran = self.run_it(*words)
             self.assertEqual((ran.status, ran.err), (0, ""))
             self.assertIn(b"\nExit status: 0 ", ran.out)
@@ -293,10 +325,12 @@ class Forms(Launching):
 
     def test_junit(self):
         odd = self.file("a\t<b>&\"\x1b", (ROOT / GOOD).read_bytes())
-        ran = self.run_it("--format", "junit", WRONG, GOOD, "missing", odd, b"no\xffutf")
+        ran = self.run_it("--format", "junit", WRONG, GOOD, "missing", odd, b"no\xffutf", "\uffff")
         self.assertEqual(ran.status, 2)
         suite = ElementTree.fromstring(ran.out)
-        self.assertEqual(suite.attrib, {"name": "glubotar", "tests": "5", "failures": "1", "errors": "2"})
+        self.assertEqual(suite.attrib, {"name": "glubotar", "tests": "6", "failures": "1", "errors": "3"})
+        failed = ElementTree.fromstring(self.run_it("--format", "junit", "--failed", WRONG, GOOD).out)
+        self.assertEqual((failed.get("tests"), len(failed)), ("1", 1))
         cases = list(suite)
         self.assertEqual([case.get("name") for case in cases[:3]], [WRONG, GOOD, "missing"])
         self.assertIn("<b>&\"\\x1b", cases[3].get("name"))
@@ -323,11 +357,14 @@ class Join(Launching):
         lines = whole.splitlines(keepends=True)
         parts = {"no total": b"".join(lines[:-1]), "a line less": b"".join(lines[1:]), "empty": b"", "cut": whole[:-1],
                  "cut in a line": whole[:200], "text": WRONG_TEXT, "failed": self.run_it("--failed", *EXAMPLES).out,
-                 "counts without a step": row("a", 1, 1, "-") + total(1, 1, 1, 0, 1)}
+                 "counts without a step": row("a", 1, 1, "-") + total(1, 1, 1, 0, 1), "nothing": total(0, 0, 0, 0, 0),
+                 "whole, then a line cut": whole + b"x", "whole, then no total": whole + good_row(),
+                 "whole, then nothing": whole + total(0, 0, 0, 0, 0), "a huge number": row("a", "1" * 5000, 0, "-")}
         for name, part in parts.items():
             with self.subTest(part=name):
                 self.due(self.run_it("join", self.file("ok", whole), self.file("bad", part)), 2, b"",
                          "no whole output of a run", "/bad")
+        self.due(self.run_it("join", "-", "-", data=whole), 2, b"", "standard input is named more than once")
         self.due(self.run_it("join", self.work / "nothing"), 2, b"", "an output can't be read: ", "nothing: no such file")
 
 
@@ -364,6 +401,44 @@ class NothingIsLost(Launching):
         if ran.status != 1:  # too few for so many at once: it is said
             self.assertEqual(ran.status, 2)
             self.assertIn("the checker can't be started", ran.err)
+
+    def unhurried(self, *words, pieces):
+        """A run whose input and output are pipes that don't block, and whose input comes in pieces."""
+        (reads, writes), (out, there) = os.pipe(), os.pipe()
+        for end in (reads, there):
+            os.set_blocking(end, False)
+        with subprocess.Popen(self.words(*words), cwd=ROOT, env=self.environment, stdin=reads, stdout=there,
+                              stderr=subprocess.PIPE) as process:
+            os.close(reads)
+            os.close(there)
+            for piece in pieces:
+                time.sleep(0.3)
+                os.write(writes, piece)
+            os.close(writes)
+            time.sleep(0.3)
+            with open(out, "rb") as output:
+                written = output.read()
+            return Ran(process.wait(), written, "")
+
+    def test_pipes_that_do_not_block(self):
+        two = [f"{GOOD}\n".encode(), f"{WRONG}\n".encode()]
+        ran = self.unhurried("--from", "-", pieces=two)
+        self.assertEqual((ran.status, ran.out), (1, good_row() + wrong_row() + total(2, 12, 1, 0, 1)))
+        trace = (ROOT / WRONG).read_bytes()
+        for command in ((), ("explain",), ("show",)):
+            ran = self.unhurried(*command, pieces=[trace[:3], trace[3:]])
+            self.assertEqual(ran.out, self.run_it(*command, data=trace).out)
+        run = good_row() + total(1, 10, 0, 0, 0)
+        ran = self.unhurried("join", pieces=[run, wrong_row() + total(1, 2, 1, 0, 1)])
+        self.assertEqual((ran.status, ran.out), (1, good_row() + wrong_row() + total(2, 12, 1, 0, 1)))
+        longest = self.file("longest", b"\1" + b"\3\0\0\x20\0" * 13107)
+        ran = self.unhurried("--lines", longest, longest, pieces=[b""])
+        self.assertEqual((ran.status, ran.out), (0, self.run_it("--lines", longest, longest).out))
+
+    def test_a_write_that_fails_when_all_is_written(self):
+        output = streams.Output()
+        with unittest.mock.patch("os.close", side_effect=OSError(5, "Input/output error")):
+            self.assertRaisesRegex(Failure, "the output can't be written: input/output error", output.close)
 
     @unittest.skipUnless(os.path.exists("/dev/full"), "there is no device that is always full")
     def test_a_full_output(self):

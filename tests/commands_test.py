@@ -87,6 +87,22 @@ class ShowAndAsm(Launching):
         self.assertEqual((self.out.read_bytes(), self.out.stat().st_mode & 0o777, link.is_symlink()), (BYTES, 0o640, True))
         self.due(self.run_it("asm", self.text, "-o", self.work / "no" / "out"), 2, b"", "can't be written: no such file")
         self.due(self.run_it("asm", self.text, "-o", self.work), 2, b"", "can't be written: is a folder")
+        self.due(self.run_it("asm", self.text, "-o", f"{self.work}/new/"), 2, b"", "can't be written: is a folder")
+        os.chmod(self.out, 0o666)
+        long = self.work / ("n" * 255)
+        for out in (self.out, long):
+            self.good("asm", self.text, "-o", out)
+        self.assertEqual((long.read_bytes(), self.out.stat().st_mode & 0o777), (BYTES, 0o666))
+        mask = os.umask(0)
+        os.umask(mask)
+        self.assertEqual(long.stat().st_mode & 0o777, 0o666 & ~mask)
+
+    def test_standard_output_by_its_name_is_shared(self):
+        with open(self.out, "wb", buffering=0) as shared:
+            shared.write(b"before")
+            self.run_it("asm", self.text, "-o", "/dev/stdout", stdout=shared)
+            shared.write(b"after")
+        self.assertEqual(self.out.read_bytes(), b"before" + BYTES + b"after")
 
     def test_a_pipe_or_a_device_is_written_to(self):
         self.assertEqual(self.good("asm", self.text, "-o", "/dev/stdout"), BYTES)
@@ -140,8 +156,11 @@ class Install(Launching):
         old = prefix / "lib/glubotar/launcher/old.py"  # of a copy that was there before
         old.parent.mkdir(parents=True)
         old.write_text("")
-        self.due(self.run_it("install", "--prefix", prefix), 0, b"")
+        self.due(self.run_it("install", "--prefix", prefix, preexec_fn=lambda: os.umask(0o077)), 0, b"")
         self.assertFalse(old.exists())
+        self.assertEqual(sorted(os.listdir(prefix / "bin")), ["glubotar"])
+        for path in prefix.rglob("*"):
+            self.assertEqual(path.stat().st_mode & 0o055, 0o055 if path.is_dir() or path.stat().st_mode & 0o100 else 0o044, path)
         moved = self.work / "moved"
         prefix.rename(moved)
         self.assertEqual(sorted(os.listdir(moved / "lib")), ["glubotar", "libglubotar_c.a", "pkgconfig"])

@@ -63,6 +63,13 @@ class Terminal(Launching):
         self.assertTrue(self.shown(WRONG)[1].startswith("1 ok 0 0 00000000\n2 ok 0 1 00000003\n3 no 14\nend 2 1\n"))
         self.assertIn(f"{WRONG}\t2\t1\t3:14\n", self.shown("--format", "tsv", WRONG, GOOD)[1])
 
+    def test_nobody_waits_in_silence(self):
+        here, there = pty.openpty()
+        self.addCleanup(os.close, here)
+        self.addCleanup(os.close, there)
+        for command in ((), ("explain",), ("join",), ("show",), ("asm",)):
+            self.due(self.run_it(*command, stdin=there), 2, b"", "nothing is named, and standard input is a terminal")
+
     def test_a_count_that_is_erased(self):
         for columns in (80, 20, 1):
             words = self.words("--jobs", "1", GOOD, GOOD)
