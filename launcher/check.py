@@ -3,9 +3,10 @@ from __future__ import annotations
 
 import os
 
-from launcher.checker import Answer, Checker, Processes, looks_like_text
+from launcher.checker import Answer, Checker, looks_like_text
 from launcher.names import Names, standard_input
 from launcher.options import Options
+from launcher.processes import Processes
 from launcher.project import Project
 from launcher.report import PLAIN, SUMMARY, Conclusion, Report, Rows, Table, Total
 from launcher.streams import Failure, Output, progress

@@ -2,16 +2,12 @@
 from __future__ import annotations
 
 import codecs
-import contextlib
-import fcntl
 import os
-import subprocess
-import threading
 from collections.abc import Iterator
 
 from launcher.names import said
-from launcher.signals import held
-from launcher.streams import PIECE, Failure, read_file, reason
+from launcher.processes import Processes
+from launcher.streams import Failure, read_file, reason
 
 GROUP_TRACES = 1024  # in one process
 KEPT_TRACES = 64     # the same where all lines are kept until it is their turn
@@ -19,7 +15,6 @@ GROUP_BYTES = 65536  # of names in one process, below what any command line hold
 LONGEST_NAME = 4095  # no file has a longer one
 LONGEST_TRACE = 65536
 INPUT = b"-"
-SET_PIPE_SIZE = 1031  # Linux's number, which older Pythons don't name
 TEXT_CONTROL = set(range(32)) - set(b"\t\n\f\r")  # bytes that no text has
 
 
@@ -34,51 +29,6 @@ class Answer:
         self.first = first  # the first refused step and the number that refuses it
         self.fault = fault  # why the trace can't be read, or nothing
         self.text = text    # the checker's lines, where they are asked for
-
-
-class Processes:
-    """The processes that run now. At the end of a block with it they are gone, and no other is started."""
-
-    def __init__(self) -> None:
-        self.running: set[subprocess.Popen[bytes]] = set()
-        self.closed = False
-        self.guard = threading.Lock()
-
-    def start(self, words: list[bytes], given: bool) -> subprocess.Popen[bytes]:
-        """A command whose output is read here, and whose input is given here or is this process's own."""
-        with held(), self.guard:
-            if self.closed:
-                raise Failure("interrupted")
-            try:
-                process = subprocess.Popen(words, stdin=subprocess.PIPE if given else None, stdout=subprocess.PIPE,
-                                           close_fds=False)  # a name may be /dev/fd/N
-            except OSError as error:
-                raise Failure(f"the checker can't be started: {reason(error)}") from None
-            self.running.add(process)
-            return process
-
-    @contextlib.contextmanager
-    def started(self, words: list[bytes], given: bool = False) -> Iterator[subprocess.Popen[bytes]]:
-        """The same; at the end of the block it is gone, whatever happened."""
-        process = self.start(words, given)
-        try:
-            yield process
-        except BaseException:
-            process.kill()
-            raise
-        finally:
-            process.wait()
-            with self.guard:
-                self.running.discard(process)
-
-    def __enter__(self) -> Processes:
-        return self
-
-    def __exit__(self, *_: object) -> None:
-        with self.guard:
-            self.closed = True
-            for process in self.running:
-                process.kill()
 
 
 class Checker:
@@ -105,9 +55,9 @@ class Checker:
         answers: list[Answer] = []
         rest = b""
         with self.processes.started(self.command + names) as process:
-            for chunk in chunks(process):
-                rest = self.take_answers(names, answers, rest + chunk)
-        if len(answers) < len(names) or rest or process.returncode != 0:
+            for piece in process.pieces():
+                rest = self.take_answers(names, answers, rest + piece)
+        if len(answers) < len(names) or rest or process.status != 0:
             raise broke_off(names[min(len(answers), len(names) - 1)])
         return answers
 
@@ -122,9 +72,10 @@ class Checker:
     def answer_bytes(self, name: bytes, trace: bytes) -> Answer:
         """The answer to the bytes of a trace."""
         with self.processes.started(self.command, given=True) as process:
-            text, _ = process.communicate(trace)
+            process.give(trace)
+            text = b"".join(process.pieces())
         answer, after = self.take_text(name, text, 0)
-        if answer is None or after != len(text) or process.returncode != 0:
+        if answer is None or after != len(text) or process.status != 0:
             raise broke_off(name)
         return answer
 
@@ -158,19 +109,6 @@ class Checker:
         first = first_refused(output, start, end) if refused else None
         text = output[start:after] if self.keep_text else b""
         return Answer(name, accepted, refused, first, "", text), after
-
-
-def chunks(process: subprocess.Popen[bytes]) -> Iterator[bytes]:
-    """What a process prints, in pieces."""
-    assert process.stdout
-    with process.stdout as output:
-        with contextlib.suppress(OSError):
-            fcntl.fcntl(output.fileno(), SET_PIPE_SIZE, PIECE)  # it waits less often for its reader
-        while True:
-            chunk = os.read(output.fileno(), PIECE)
-            if not chunk:
-                return
-            yield chunk
 
 
 def number(word: bytes) -> int:

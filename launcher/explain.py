@@ -3,10 +3,11 @@ import re
 import textwrap
 from typing import Collection, Dict, Iterator, List, NamedTuple, Sequence, Tuple
 
-from launcher.checker import LONGEST_TRACE, Answer, Checker, Processes, looks_like_text
+from launcher.checker import LONGEST_TRACE, Answer, Checker, looks_like_text
 from launcher.kinds import BY_BYTE, COMPLEMENT, MOST_BYTES, MOST_WARPS, REDUCTIONS, SIZE, steps, values_of
 from launcher.names import Names, said, standard_input
 from launcher.options import Options
+from launcher.processes import Processes
 from launcher.project import Project
 from launcher.report import Conclusion, Total
 from launcher.sentences import read_refusals, said_of
@@ -223,7 +224,7 @@ def explain(options: Options, output: Output, root: str) -> int:
             total.add(answer)
             output.flush()
     output.close()
-    summary.say()
+    summary.say(explained_already=True)
     return total.status()
 
 

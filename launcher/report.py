@@ -6,7 +6,7 @@ from collections.abc import Callable
 
 from launcher.checker import Answer
 from launcher.names import said, shown
-from launcher.streams import Output, say
+from launcher.streams import Output, progress, say
 
 PLAIN, LINES, SUMMARY = "plain", "lines", "summary"
 
@@ -135,7 +135,9 @@ class Conclusion:
             if is_text(answer):
                 self.note("looks like a text, of which `glubotar asm` makes a trace", said(answer.name), 1)
 
-    def say(self) -> None:
+    def say(self, explained_already: bool = False) -> None:
         for kind, first in self.first.items():
             more = self.count[kind] - 1
             say(f"{kind}: {first}" + (f", and {more} more" if more else ""))
+        if "refused" in self.first and progress.terminal and not explained_already:
+            say("`glubotar explain` says in words what was refused, and where to look")

@@ -12,7 +12,7 @@ import unittest
 import unittest.mock
 
 from launching import ROOT, Launching, limits, permissions, row, total
-from launcher import checker, project, signals
+from launcher import processes, project, signals
 from launcher.build import build_once
 from launcher.streams import Failure
 
@@ -365,9 +365,9 @@ class Interrupts(WithKit):
         self.assertEqual((done, interrupted.exception.number), (["whole"], signal.SIGTERM))
 
     def test_nothing_starts_once_all_is_over(self):
-        with checker.Processes() as processes:
+        with processes.Processes() as over:
             pass
-        self.assertRaises(Failure, processes.start, [b"/bin/true"], False)
+        self.assertRaises(Failure, over.start, [b"/bin/true"], False)
 
     def test_an_ignored_signal_stays_ignored(self):
         self.go("plain")

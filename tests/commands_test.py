@@ -9,7 +9,7 @@ import sys
 import threading
 import unittest
 
-from launching import (EXAMPLE_ROWS, EXAMPLE_TOTAL, EXAMPLES, GOOD, GOOD_TEXT, ROOT, WRONG, WRONG_TEXT, Launching,
+from launching import (EXAMPLE_ROWS, EXAMPLE_TOTAL, EXAMPLES, GOOD, ROOT, WRONG, WRONG_TEXT, Launching,
                        limits)
 
 TEXT = b"warps 1\nw0: exit\nw0: exit\n"
