@@ -12,7 +12,7 @@ from collections.abc import Iterator
 
 from launcher.guarded import run_guarded
 from launcher.project import EMULATOR, PROGRAM, Project
-from launcher.streams import Failure, progress, read_file, reason, say, write_whole
+from launcher.streams import Failure, progress, read_file, reason, say, write_all, write_whole
 
 PROVED = re.compile(rb"rt: \S+ proved")
 LOG_END = 20  # lines of a failed build's log that are shown
@@ -99,11 +99,12 @@ def run_rt(project: Project, *words: str) -> None:
         os.chmod(scratch, 0o711)  # as root, rt runs the new program as another user
         with open(log_name, "wb", buffering=0) as log:
             run = run_guarded([rt, *words], project.root, dict(os.environ, TMPDIR=scratch))
-            for line in run.lines():
-                log.write(line)
-                ending = (ending + [line])[-LOG_END:]
-                count += bool(PROVED.match(line))
-                progress.show(f"{min(count, of)} of {of} crates")
+            with contextlib.closing(run.lines()) as lines:  # at its end the build is gone, whatever happened
+                for line in lines:
+                    write_all(log.fileno(), line)
+                    ending = (ending + [line])[-LOG_END:]
+                    count += bool(PROVED.match(line))
+                    progress.show(f"{min(count, of)} of {of} crates")
     except OSError as error:
         raise Failure(f"the build's log can't be written: {log_name}: {reason(error)}") from None
     finally:

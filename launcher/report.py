@@ -8,7 +8,7 @@ from launcher.checker import Answer
 from launcher.names import said, shown
 from launcher.streams import Output, progress, say
 
-PLAIN, LINES, SUMMARY = "plain", "lines", "summary"
+PLAIN, SUMMARY = "plain", "summary"  # the third is "lines"
 
 
 class Total:
