@@ -25,16 +25,22 @@ def lock(project: Project) -> Iterator[None]:
         os.makedirs(project.target, exist_ok=True)
         descriptor = os.open(os.path.join(project.target, "building.lock"), os.O_RDWR | os.O_CREAT, 0o666)
     except OSError as error:
-        raise Failure(f"the checker has to be built, and can't be in {project.root}: {reason(error)}") from None
+        raise Failure(f"nothing can be built in {project.root}: {reason(error)}") from None
     try:
-        try:
-            fcntl.flock(descriptor, fcntl.LOCK_EX | fcntl.LOCK_NB)
-        except BlockingIOError:
-            say("another run builds the checker; waiting")
-            fcntl.flock(descriptor, fcntl.LOCK_EX)
+        take(descriptor)
         yield
     finally:
         os.close(descriptor)
+
+
+def take(descriptor: int) -> None:
+    try:
+        fcntl.flock(descriptor, fcntl.LOCK_EX | fcntl.LOCK_NB)
+    except BlockingIOError:
+        say("another run builds the checker; waiting")
+        fcntl.flock(descriptor, fcntl.LOCK_EX)
+    except OSError as error:
+        raise Failure(f"the lock for a build can't be taken: {reason(error)}") from None
 
 
 def build_once(project: Project) -> None:
@@ -54,10 +60,10 @@ def build(project: Project) -> None:
     try:
         collect(project)
         places = project.places()
-        times = project.times(places)
-        if project.content(project.sources()) != before:
+        times, content = project.times(places), project.content(places)
+        if project.content(project.sources()) != before:  # read last, so that nothing else is in the record
             raise Failure("the sources changed while the checker was built; start again")
-        project.write_record(project.content(places), times, places)
+        project.write_record(content, times, places)
     except OSError as error:
         raise Failure(f"the checker can't be kept in {project.checker}: {reason(error)}") from None
 
@@ -106,7 +112,7 @@ def run_rt(project: Project, *words: str) -> None:
                     count += bool(PROVED.match(line))
                     progress.show(f"{min(count, of)} of {of} crates")
     except OSError as error:
-        raise Failure(f"the build's log can't be written: {log_name}: {reason(error)}") from None
+        raise Failure(f"the build can't go on, with its log {log_name}: {reason(error)}") from None
     finally:
         progress.erase()
         shutil.rmtree(scratch, ignore_errors=True)
@@ -131,7 +137,7 @@ def crates(project: Project, name: str) -> list[str]:
 def find_rt() -> str:
     rt = shutil.which("rt")
     if rt is None:
-        raise Failure("the checker has to be built, which needs rt of the Rattle kit, and that is not on the PATH")
+        raise Failure("a build needs rt of the Rattle kit, and that is not on the PATH")
     return rt
 
 

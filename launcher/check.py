@@ -3,7 +3,7 @@ from __future__ import annotations
 
 import os
 
-from launcher.checker import Answer, Checker, looks_like_text
+from launcher.checker import Answer, Checker
 from launcher.names import Names, standard_input
 from launcher.options import Options
 from launcher.processes import Processes
@@ -27,7 +27,7 @@ def check(options: Options, output: Output, root: str) -> int:
                 ask_for_cut(answer, found)
                 if answer.refused or answer.fault or not options.failed:
                     report.add(answer)
-                conclusion.add(answer, looks_like_text)
+                conclusion.add(answer)
                 total.add(answer)
             output.flush()
             show_count(total.traces, len(names))

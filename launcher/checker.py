@@ -5,7 +5,8 @@ import codecs
 import os
 from collections.abc import Iterator
 
-from launcher.names import said
+from launcher import MOST_BYTES
+from launcher.names import STANDARD_INPUT, said
 from launcher.processes import Processes
 from launcher.streams import Failure, read_file, reason
 
@@ -13,14 +14,13 @@ GROUP_TRACES = 1024  # in one process
 KEPT_TRACES = 64     # the same where all lines are kept until it is their turn
 GROUP_BYTES = 65536  # of names in one process, below what any command line holds
 LONGEST_NAME = 4095  # no file has a longer one
-LONGEST_TRACE = 65536
-INPUT = b"-"
-TEXT_CONTROL = set(range(32)) - set(b"\t\n\f\r")  # bytes that no text has
+TEXT_CONTROL = set(range(32)) - set(b"\t\n\r")  # bytes that no text has
+AT_THE_START = ((0, 4), (1, 1), (0, 21))  # where a text is refused that is taken for a trace
 
 
 class Answer:
     """What the checker said of one trace."""
-    __slots__ = ("name", "accepted", "refused", "first", "fault", "text")
+    __slots__ = ("name", "accepted", "refused", "first", "fault", "text", "is_text")
 
     def __init__(self, name: bytes, accepted: int = 0, refused: int = 0, first: tuple[int, int] | None = None,
                  fault: str = "", text: bytes = b"") -> None:
@@ -29,6 +29,7 @@ class Answer:
         self.first = first  # the first refused step and the number that refuses it
         self.fault = fault  # why the trace can't be read, or nothing
         self.text = text    # the checker's lines, where they are asked for
+        self.is_text = False  # the trace looks like a text
 
 
 class Checker:
@@ -48,7 +49,7 @@ class Checker:
 
     def answer_group(self, names: list[bytes]) -> list[Answer]:
         """The answers to some traces by one process, read as they come. All that it prints belongs to one of them."""
-        if names == [INPUT]:
+        if names == [STANDARD_INPUT]:
             return [self.answer_input()]
         if len(names[0]) > LONGEST_NAME:
             return [Answer(names[0], fault="its name is too long")]
@@ -64,10 +65,10 @@ class Checker:
     def answer_input(self) -> Answer:
         """The answer to standard input, which is read here: it may be a pipe that doesn't block."""
         try:
-            trace = read_file(INPUT, LONGEST_TRACE + 1)
+            trace = read_file(STANDARD_INPUT, MOST_BYTES + 1)
         except OSError as error:
-            return Answer(INPUT, fault=reason(error))
-        return self.answer_bytes(INPUT, trace)
+            return Answer(STANDARD_INPUT, fault=reason(error))
+        return self.answer_bytes(STANDARD_INPUT, trace)
 
     def answer_bytes(self, name: bytes, trace: bytes) -> Answer:
         """The answer to the bytes of a trace."""
@@ -77,6 +78,7 @@ class Checker:
         answer, after = self.take_text(name, text, 0)
         if answer is None or after != len(text) or process.status != 0:
             raise broke_off(name)
+        answer.is_text = answer.first in AT_THE_START and looks_like_text(trace)
         return answer
 
     def take_answers(self, names: list[bytes], answers: list[Answer], output: bytes) -> bytes:
@@ -87,6 +89,8 @@ class Checker:
             answer = None
             if output.startswith(b"file %s\n" % name, at):
                 answer, after = self.take_text(name, output, at + len(name) + 6)
+                if answer and answer.first in AT_THE_START:
+                    answer.is_text = names_a_text(name)
             elif output.startswith(b"unreadable %s\n" % name, at):
                 answer, after = Answer(name, fault=why_unreadable(name)), at + len(name) + 12
             if answer is None:
@@ -144,14 +148,21 @@ def why_unreadable(name: bytes) -> str:
     return "it couldn't be read just now"
 
 
-def looks_like_text(answer: Answer) -> bool:
-    """Whether a trace that was refused at its very start is a text: some thousand bytes without one that no text has."""
-    if answer.first not in ((0, 4), (1, 1), (0, 21)) or not os.path.isfile(answer.name):
+def names_a_text(name: bytes) -> bool:
+    if not os.path.isfile(name):  # what is read from a pipe is gone
         return False
     try:
-        start = read_file(answer.name, 4096)
+        return looks_like_text(read_file(name, 4096))
+    except OSError:
+        return False
+
+
+def looks_like_text(data: bytes) -> bool:
+    """Whether some thousand bytes are UTF-8 and have none that no text has."""
+    start = data[:4096]
+    try:
         codecs.getincrementaldecoder("utf-8")().decode(start)  # its last letter may be cut
-    except (OSError, UnicodeDecodeError):
+    except UnicodeDecodeError:
         return False
     return bool(start) and not TEXT_CONTROL.intersection(start)
 
@@ -164,7 +175,7 @@ def grouped(names: list[bytes], jobs: int, most: int) -> list[list[bytes]]:
     size = 0
     alone = True
     for name in names:
-        was_alone, alone = alone, name == INPUT or len(name) > LONGEST_NAME
+        was_alone, alone = alone, name == STANDARD_INPUT or len(name) > LONGEST_NAME
         if alone or was_alone or len(groups[-1]) == most or size + len(name) > GROUP_BYTES:
             groups.append([])
             size = 0

@@ -1,10 +1,12 @@
 """What the checker's lines for a trace say, in words. Every verdict is the checker's: none is found here."""
+import os
 import re
 import textwrap
 from typing import Collection, Dict, Iterator, List, NamedTuple, Sequence, Tuple
 
-from launcher.checker import LONGEST_TRACE, Answer, Checker, looks_like_text
-from launcher.kinds import BY_BYTE, COMPLEMENT, MOST_BYTES, MOST_WARPS, REDUCTIONS, SIZE, steps, values_of
+from launcher import MOST_BYTES
+from launcher.checker import Answer, Checker
+from launcher.kinds import BY_BYTE, COMPLEMENT, MOST_WARPS, REDUCTIONS, SIZE, steps, values_of
 from launcher.names import Names, said, standard_input
 from launcher.options import Options
 from launcher.processes import Processes
@@ -55,7 +57,7 @@ def verdicts_of(text: bytes) -> List[Verdict]:
     return verdicts
 
 
-def is_whole(verdicts: Sequence[Verdict]) -> bool:
+def refused_whole(verdicts: Sequence[Verdict]) -> bool:
     """Whether the trace was refused before its steps."""
     return bool(verdicts) and verdicts[0].step == 0
 
@@ -67,7 +69,7 @@ def hold_to(name: str, trace: bytes, whole: Sequence[bytes], verdicts: Sequence[
     awaited = len(whole) + unread if begins else 0
     stops = [verdict.step for verdict in verdicts if verdict.refusal in ENDS_THE_CHECK]
     fits = len(verdicts) == awaited and stops == ([awaited] if unread else [])
-    if is_whole(verdicts):
+    if refused_whole(verdicts):
         fits = len(verdicts) == 1 and not begins
     if not fits or not (begins or verdicts):
         raise ValueError(f"The checker's lines for {name} don't fit it: {counted(awaited, 'step')} "
@@ -176,7 +178,7 @@ def unread_text(verdict: Verdict, rest: bytes, sentences: Dict[int, Tuple[str, s
                     f"of the trace {'is' if len(rest) == 1 else 'are'} not read.")]
 
 
-def conclusion(verdicts: Sequence[Verdict], warps: Warps) -> List[str]:
+def last_lines(verdicts: Sequence[Verdict], warps: Warps) -> List[str]:
     numbers = [verdict.step for verdict in verdicts if verdict.refusal]
     if not numbers:
         return [wrapped("Nothing is refused. That does not say that the kernel ends: warps that wait to the end "
@@ -191,9 +193,10 @@ def explained(name: str, trace: bytes, text: bytes, sentences: Dict[int, Tuple[s
     """The checker's lines `text` for a trace in words: of each refused step, or of every step."""
     verdicts, whole = verdicts_of(text), list(steps(trace))
     hold_to(name, trace, whole, verdicts)
-    if is_whole(verdicts):
+    if refused_whole(verdicts):
         block = f", {counted(trace[0], 'warp')}" if trace else ""
-        return (f"{name}: {counted(len(trace), 'byte')}{block}; refused as a whole, no step is read\n"
+        size = counted(len(trace), "byte") if len(trace) <= MOST_BYTES else f"more than {MOST_BYTES:,} bytes"
+        return (f"{name}: {size}{block}; refused as a whole, no step is read\n"
                 + refused(verdicts[0], sentences) + "\n")
     warps, bad = Warps(trace[0]), sum(verdict.refusal > 0 for verdict in verdicts)
     lines = [f"{name}: {counted(trace[0], 'warp')}, {counted(len(verdicts), 'step')}: "
@@ -208,7 +211,7 @@ def explained(name: str, trace: bytes, text: bytes, sentences: Dict[int, Tuple[s
     rest = trace[1 + sum(map(len, whole)):]
     if rest:
         lines += unread_text(verdicts[-1], rest, sentences)
-    return "\n".join(lines + conclusion(verdicts, warps)) + "\n"
+    return "\n".join(lines + last_lines(verdicts, warps)) + "\n"
 
 
 def explain(options: Options, output: Output, root: str) -> int:
@@ -220,18 +223,19 @@ def explain(options: Options, output: Output, root: str) -> int:
         checker = Checker(command, processes, keep_text=True)
         for name in names:
             answer = explain_one(name, checker, sentences, options.all, output)
-            summary.add(answer, looks_like_text)
+            summary.add(answer)
             total.add(answer)
             output.flush()
     output.close()
-    summary.say(explained_already=True)
+    summary.say(explained=True)
     return total.status()
 
 
 def explain_one(name: bytes, checker: Checker, sentences: Dict[int, Tuple[str, str]], every: bool, output: Output) -> Answer:
     try:
-        trace = read_file(name, LONGEST_TRACE + 1)
+        trace = read_file(name, MOST_BYTES + 1)
     except OSError as error:
+        output.write(os.fsencode(f"{said(name)}: unreadable: {reason(error)}\n"))
         return Answer(name, fault=reason(error))
     answer = checker.answer_bytes(name, trace)
     try:

@@ -76,8 +76,8 @@ class Junit(Report):
             inside = f'<failure type="{number}" message={quoteattr(message)}>{count}</failure>'
         if self.form != SUMMARY and answer.text:
             inside += f"<system-out>{escape(answer.text.decode())}</system-out>"
-        name = quoteattr(NO_XML.sub(lambda found: f"\\u{ord(found[0]):04x}", said(answer.name)))
-        self.cases.append(f'<testcase classname="glubotar" name={name}>{inside}</testcase>\n')
+        case = f'<testcase classname="glubotar" name={quoteattr(said(answer.name))}>{inside}</testcase>\n'
+        self.cases.append(NO_XML.sub(lambda found: f"\\u{ord(found[0]):04x}", case))
 
     def end(self, total: Total) -> None:
         head = (f'<?xml version="1.0" encoding="UTF-8"?>\n<testsuite name="glubotar" tests="{len(self.cases)}" '

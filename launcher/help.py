@@ -7,7 +7,8 @@ Usage: glubotar [check] [OPTION].. [TRACE]..
        glubotar asm TEXT -o TRACE             a text as a trace
        glubotar join PART..                   the outputs of several runs as one
        glubotar install --prefix DIR          a copy that runs without this folder
-Each command has its own --help.
+Each command has its own --help. A first word that is a command is one: a trace of
+such a name goes after an option or --.
 
 Checks traces of GPU barrier steps. TRACE is a file, a folder (every *.trace in it
 and below) or - for standard input, which is also read where no TRACE is given.
@@ -19,7 +20,8 @@ Several: a line for each, with tabs between the columns, and a line for all:
   total  traces    accepted  refused  unreadable  traces with a refusal
 A script says --lines or --summary, so that one trace prints as several do.
 
-  --lines        print all lines of each trace, with its name and a tab before each
+  --lines        print all lines of each trace, with its name and a tab before each,
+                 and the total
   --summary      print the line for each trace and the total, even for one trace
   --failed       leave out traces in which nothing was refused; the total counts them
   --format FORM  text (the default; on a terminal in columns, refused traces last),
@@ -72,10 +74,11 @@ Example: glubotar asm examples/whole_case.trace.txt -o whole_case.trace
 """
 JOIN = """\
 Usage: glubotar join [PART]..
-Takes each PART (-: standard input) for the output of a run over several traces, or of
-some such runs one after the other. Prints the lines of all of them and one total, with
-the exit status of a run over all their traces. A PART that was cut, or whose lines
-don't add up to its total, is named and refused with 2.
+Takes each PART (-: standard input) for the output of a run over several traces, as text
+or tsv, without --lines and --failed; or of some such runs one after the other. Prints
+the lines of all of them and one total, with the exit status of a run over all their
+traces. A PART that was cut, or whose lines don't add up to its total, is named and
+refused with 2.
 
   -h, --help  print this
 

@@ -31,10 +31,10 @@ def install(root: str, prefix: str) -> None:
     try:
         os.makedirs(os.path.join(prefix, "lib"), exist_ok=True)  # a wrong prefix is said before the build
         project.command()
-        with lock(project):
+        with lock(project):  # nobody builds the checker anew meanwhile
             run_rt(project, "staticlib", "glubotar_c")
-        install_launcher(project, prefix)
-        install_library(project, prefix)
+            install_launcher(project, prefix)
+            install_library(project, prefix)
     except OSError as error:
         raise Failure(f"{os.fsdecode(error.filename or prefix)} can't be written: {reason(error)}") from None
 

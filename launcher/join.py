@@ -51,7 +51,7 @@ def join(names: list[bytes], output: Output) -> int:
     report, conclusion, total = Rows(output, SUMMARY), Conclusion(), Total()
     for answer in answers:
         report.add(answer)
-        conclusion.add(answer, lambda _: False)
+        conclusion.add(answer)
         total.add(answer)
     report.end(total)
     output.close()

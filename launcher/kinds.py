@@ -2,7 +2,6 @@
 from typing import Dict, Iterator, NamedTuple, Tuple
 
 MOST_WARPS = 32
-MOST_BYTES = 65_536  # of a trace: the checker refuses a longer one with 21
 
 
 class Kind(NamedTuple):

@@ -7,7 +7,7 @@ import sys
 
 from launcher import VERSION
 from launcher.options import Options, read_command_line
-from launcher.signals import Interrupted, end_by, heed
+from launcher.signals import Interrupted, disregard, end_by, heed
 from launcher.streams import Failure, NobodyReads, Output, fill_closed_streams, progress, read_file, reason, say, write_whole
 
 ROOT = os.path.dirname(os.path.dirname(os.path.realpath(__file__)))
@@ -111,14 +111,19 @@ def run(words: list[str]) -> int:
 
 def main() -> int:
     fill_closed_streams()
-    heed()
     try:
-        return run(sys.argv[1:])
-    except Failure as failure:
-        say(str(failure))
+        heed()
+        try:
+            return run(sys.argv[1:])
+        except Failure as failure:
+            say(str(failure))
+            return 2
+        finally:
+            disregard()  # what is left to do is to end
     except NobodyReads:
-        end_by(signal.SIGPIPE)
+        number = int(signal.SIGPIPE)
     except Interrupted as interrupted:
-        progress.erase()
-        end_by(interrupted.number)
+        number = interrupted.number
+    progress.erase()
+    end_by(number)
     return 2

@@ -6,15 +6,22 @@ from collections.abc import Iterator
 
 from launcher.streams import Failure, read_file, reason
 
-CONTROL = bytes([*range(32), 127])
-ESCAPES = {9: "\\t", 10: "\\n", 13: "\\r"}
+STANDARD_INPUT = b"-"
+ESCAPES = {"\t": "\\t", "\n": "\\n", "\r": "\\r"}
 
 
 def shown(name: bytes) -> bytes:
     """A name on one line and in one column: what would break it, or move a terminal's cursor, is escaped."""
-    if name.translate(None, CONTROL) == name:
+    text = os.fsdecode(name)
+    if text.isprintable():
         return name
-    return b"".join(ESCAPES.get(byte, f"\\x{byte:02x}").encode() if byte in CONTROL else bytes([byte]) for byte in name)
+    return os.fsencode("".join(map(escaped, text)))
+
+
+def escaped(letter: str) -> str:
+    if letter >= " " and not "\x7f" <= letter <= "\x9f":
+        return letter
+    return ESCAPES.get(letter, f"\\x{ord(letter):02x}")
 
 
 def said(name: bytes) -> str:
@@ -26,7 +33,7 @@ def standard_input() -> bytes:
     """The name of standard input, where no other is given."""
     if os.isatty(0):
         raise Failure("nothing is named, and standard input is a terminal; see --help")
-    return b"-"
+    return STANDARD_INPUT
 
 
 class Names:
@@ -41,13 +48,13 @@ class Names:
             if option == "trace":
                 self.add(word)
                 continue
-            inputs += word == b"-"
+            inputs += word == STANDARD_INPUT
             self.listed = True
             for name in self.read_list(word, option == "from0"):
                 if name in self.unended and os.path.isdir(name):
                     raise Failure(f"the list's last name has no end and is a folder, {said(name)}: was it cut? {said(word)}")
                 self.add(name)
-        if inputs + self.names.count(b"-") > 1:
+        if inputs + self.names.count(STANDARD_INPUT) > 1:
             raise Failure("standard input is named more than once")
         if self.listed and not self.names:
             raise Failure("the list names no trace")
@@ -56,7 +63,7 @@ class Names:
         """Adds the traces under a name: itself, or those in the folder that it names."""
         if not name:
             raise Failure("a name is empty")
-        if name == b"-" or not os.path.isdir(name):
+        if name == STANDARD_INPUT or not os.path.isdir(name):
             self.names.append(name)
             return
         self.listed = True
@@ -105,6 +112,8 @@ def gone_through(folder: bytes) -> Iterator[bytes]:
             if place not in [other for other, _ in above]:
                 above.append((place, entries_of(entry.path)))
         elif entry.name.endswith(b".trace"):
+            if os.path.exists(entry.path) and not entry.is_file():
+                raise Failure(f"what is in a folder has to be a file: {said(entry.path)}")
             yield entry.path
         elif entry.is_symlink() and not os.path.exists(entry.path):
             raise Failure(f"a link leads nowhere: {said(entry.path)}")

@@ -29,9 +29,6 @@ class Options:
 def read_command_line(words: list[str]) -> tuple[str, Options]:
     """The command and its options. A first word that is a command is no trace."""
     options = Options()
-    if words == ["help"]:
-        options.help = True
-        return "check", options
     command = words[0] if words and words[0] in COMMANDS else "check"
     rest = words[1:] if words and words[0] in COMMANDS else words
     if any(word.startswith("-") and word != "-" for word in rest):

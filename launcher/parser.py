@@ -80,7 +80,7 @@ def parse(command: str, words: list[str], options: Options) -> None:
         elif command == "check" and option in LISTS:
             options.words.append((LISTS[option], os.fsencode(value if equals else value_of(word, rest))))
         elif word in WITH_VALUE:
-            flags.append(word + ("=" if word.startswith("--") else "") + value_of(word, rest))
+            flags.append(f"{word}={value_of(word, rest)}")
         else:
             flags.append(word)
     _, unknown = parser_of(command).parse_known_args(flags, options)

@@ -52,7 +52,7 @@ class Project:
         """Changes with every place that is written, made or removed: a folder's time tells of its files."""
         before = self.root + os.sep
         stats = [os.lstat(before + place) for place in places]
-        return " ".join([f"{stat.st_size} {stat.st_mtime_ns} {stat.st_ino}" for stat in stats])
+        return " ".join([f"{stat.st_size} {stat.st_mtime_ns} {stat.st_ctime_ns} {stat.st_ino}" for stat in stats])
 
     def content(self, places: list[str]) -> str:
         """Changes with the name or the bytes of every file."""
@@ -72,7 +72,7 @@ class Project:
             return False
         content, times, places = recorded
         try:
-            if self.times(places) == times:
+            if places and self.times(places) == times:
                 return True
         except OSError:
             pass  # something is gone or has moved

@@ -2,13 +2,13 @@
 from __future__ import annotations
 
 import os
-from collections.abc import Callable
 
 from launcher.checker import Answer
 from launcher.names import said, shown
 from launcher.streams import Output, progress, say
 
 PLAIN, SUMMARY = "plain", "summary"  # the third is "lines"
+SAID = 10  # traces that can't be read, or are texts, that are named at the end
 
 
 class Total:
@@ -37,8 +37,6 @@ class Total:
 
 
 def first_of(answer: Answer) -> str:
-    if answer.fault:
-        return "unreadable"
     return "%d:%d" % answer.first if answer.first else "-"
 
 
@@ -117,27 +115,34 @@ class Table(Rows):
 
 
 class Conclusion:
-    """The sentences at the end: the first trace of each kind that is to be looked at, and how many more there are."""
+    """The sentences at the end, on what is to be looked at."""
 
     def __init__(self) -> None:
-        self.first: dict[str, str] = {}
-        self.count: dict[str, int] = {}
+        self.refused: list[str] = []     # the first trace with its first refused step
+        self.steps = 0                   # that are refused
+        self.unreadable: list[str] = []  # with the reason
+        self.texts: list[str] = []
 
-    def note(self, kind: str, sentence: str, count: int) -> None:
-        self.first.setdefault(kind, sentence)
-        self.count[kind] = self.count.get(kind, 0) + count
-
-    def add(self, answer: Answer, is_text: Callable[[Answer], bool]) -> None:
+    def add(self, answer: Answer) -> None:
         if answer.fault:
-            self.note("unreadable", f"{said(answer.name)}: {answer.fault}", 1)
+            self.unreadable.append(f"{said(answer.name)}: {answer.fault}")
         elif answer.refused:
-            self.note("refused", f"{said(answer.name)} {first_of(answer)}", answer.refused)
-            if is_text(answer):
-                self.note("looks like a text, of which `glubotar asm` makes a trace", said(answer.name), 1)
+            self.steps += answer.refused
+            if not self.refused:
+                self.refused.append(f"{said(answer.name)} {first_of(answer)}")
+            if answer.is_text:
+                self.texts.append(said(answer.name))
 
-    def say(self, explained_already: bool = False) -> None:
-        for kind, first in self.first.items():
-            more = self.count[kind] - 1
-            say(f"{kind}: {first}" + (f", and {more} more" if more else ""))
-        if "refused" in self.first and progress.terminal and not explained_already:
+    def say(self, explained: bool = False) -> None:
+        say_some("refused", self.refused, self.steps, "step")
+        say_some("unreadable", self.unreadable[:SAID], len(self.unreadable), "trace")
+        say_some("looks like a text, of which `glubotar asm` makes a trace", self.texts[:SAID], len(self.texts), "trace")
+        if self.refused and progress.terminal and not explained:
             say("`glubotar explain` says in words what was refused, and where to look")
+
+
+def say_some(kind: str, some: list[str], count: int, what: str) -> None:
+    """Says some of what there is, a sentence to each, and behind the last how many more there are."""
+    for at, one in enumerate(some, 1):
+        more = count - len(some) if at == len(some) else 0
+        say(f"{kind}: {one}" + (f", and {more} more {what}{'s' if more > 1 else ''}" if more else ""))

@@ -28,9 +28,13 @@ def interrupt(number: int, _: object = None) -> None:
     if State.holding:
         State.held.append(number)
         return
-    for other in ENDING:
-        signal.signal(other, signal.SIG_IGN)  # once is enough
+    disregard()  # once is enough
     raise Interrupted(number)
+
+
+def disregard() -> None:
+    for number in ENDING:
+        signal.signal(number, signal.SIG_IGN)
 
 
 def heed() -> None:

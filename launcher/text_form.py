@@ -2,7 +2,8 @@
 import re
 from typing import Dict, List, Tuple
 
-from launcher.kinds import BY_BYTE, COMPLEMENT, KINDS, MOST_BYTES, MOST_WARPS, REDUCTIONS, SIZE, WIDTH, Kind, steps, values_of
+from launcher import MOST_BYTES
+from launcher.kinds import BY_BYTE, COMPLEMENT, KINDS, MOST_WARPS, REDUCTIONS, SIZE, WIDTH, Kind, steps, values_of
 
 HELP = """\
 A text looks like this:

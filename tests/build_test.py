@@ -91,7 +91,7 @@ class Build(WithKit):
     def test_rt_is_missing(self):
         (self.kit / "bin/rt").unlink()
         self.environment["PATH"] = "/nowhere"
-        self.due(self.go("plain"), 2, b"", "needs rt of the Rattle kit, and that is not on the PATH")
+        self.due(self.go("plain"), 2, b"", "a build needs rt of the Rattle kit, and that is not on the PATH")
 
     def test_a_failed_build_shows_the_end_of_its_log(self):
         self.rt_does("for i in $(seq 100); do echo line $i; done; echo no proof >&2; exit 1")
@@ -141,6 +141,12 @@ class Build(WithKit):
             main.write_text("sourcE\n")
             os.utime(main, ns=(stamps.st_atime_ns, stamps.st_mtime_ns + 1))
 
+        def in_place():
+            other = main.with_name("other.rt")
+            before = other.stat()
+            other.write_bytes(other.read_bytes()[::-1])
+            os.utime(other, ns=(before.st_atime_ns, before.st_mtime_ns))
+
         def at_the_same_time(text, path):
             path.write_text(text)
             os.utime(path, ns=(stamps.st_atime_ns, main.stat().st_mtime_ns))
@@ -157,8 +163,10 @@ class Build(WithKit):
             "a new name": lambda: main.rename(main.with_name("other.rt")),
             "the checker cut": lambda: (self.checker / "program").write_text("#!/bin/sh\n"),
             "the checker gone": lambda: (self.checker / "program").unlink(),
-            "the record gone": lambda: (self.checker.with_suffix(".sources")).unlink(),
-            "the record cut": lambda: (self.checker.with_suffix(".sources")).write_text("0"),
+            "the record gone": lambda: self.checker.with_suffix(".sources").unlink(),
+            "the record cut": lambda: self.checker.with_suffix(".sources").write_text("0"),
+            "the record cut after its first line": lambda: self.checker.with_suffix(".sources").write_text("0\n"),
+            "a source in its place, and its time put back": in_place,
             "all gone": lambda: shutil.rmtree(self.target),
         }
         for name, change in changes.items():
@@ -206,7 +214,7 @@ class Build(WithKit):
         with permissions(), self.assertRaises(Failure) as said:
             self.assertFalse(here.is_built())
             build_once(here)
-        self.assertIn(f"the checker has to be built, and can't be in {self.repository}: not allowed", str(said.exception))
+        self.assertIn(f"nothing can be built in {self.repository}: not allowed", str(said.exception))
 
     def test_two_at_once_build_once(self):
         note = self.work / "builds"

@@ -77,7 +77,7 @@ class OneTrace(Launching):
 class SeveralTraces(Launching):
     def test_a_line_for_each(self):
         ran = self.run_it(*EXAMPLES)
-        self.due(ran, 1, EXAMPLE_ROWS + EXAMPLE_TOTAL, "glubotar: refused: examples/drop_out.trace 14:5, and 4 more\n")
+        self.due(ran, 1, EXAMPLE_ROWS + EXAMPLE_TOTAL, "glubotar: refused: examples/drop_out.trace 14:5, and 4 more steps\n")
         self.due(self.run_it(GOOD, GOOD), 0, good_row() + good_row() + total(2, 20, 0, 0, 0))
         self.due(self.run_it(GOOD, "--summary"), 0, good_row() + total(1, 10, 0, 0, 0))
         self.due(self.run_it("--summary", "--summary", GOOD), 0, good_row() + total(1, 10, 0, 0, 0))
@@ -122,6 +122,10 @@ class SeveralTraces(Launching):
         (self.work / "share").symlink_to("/no such share")
         self.due(self.run_it(self.work), 2, b"", f"a link leads nowhere: {self.work / 'share'}\n")
 
+    def test_a_folder_with_what_is_no_file(self):
+        os.mkfifo(self.work / "pipe.trace")
+        self.due(self.run_it(self.work), 2, b"", f"what is in a folder has to be a file: {self.work / 'pipe.trace'}\n")
+
     def test_a_folder_that_hides_something(self):
         (self.work / "empty").mkdir()
         self.due(self.run_it(GOOD, self.work / "empty"), 2, b"", "no *.trace is in the folder ")
@@ -146,7 +150,11 @@ class SeveralTraces(Launching):
     def test_unreadable_ones_among_others(self):
         ran = self.run_it(WRONG, "missing", "gone", GOOD)
         self.due(ran, 2, wrong_row() + miss_row("missing") + miss_row("gone") + good_row() + total(4, 12, 1, 2, 1),
-                 f"glubotar: refused: {WRONG} 3:14\n", "glubotar: unreadable: missing: no such file, and 1 more\n")
+                 f"glubotar: refused: {WRONG} 3:14\n", "glubotar: unreadable: missing: no such file\n",
+                 "glubotar: unreadable: gone: no such file\n")
+        ran = self.run_it(*[f"gone{number}" for number in range(13)])
+        self.assertEqual((ran.status, ran.err.count("\n")), (2, 10))
+        self.assertIn("glubotar: unreadable: gone9: no such file, and 3 more traces\n", ran.err)
         ran = self.run_it("--lines", "missing", WRONG)
         lines = b"".join(os.fsencode(WRONG) + b"\t" + line for line in WRONG_TEXT.splitlines(keepends=True))
         self.due(ran, 2, b"missing\tunreadable\n" + lines + total(2, 2, 1, 1, 1), "unreadable")
@@ -170,6 +178,7 @@ class SeveralTraces(Launching):
         with subprocess.Popen(["sh", "-c", f"echo warps 2 >'{self.work}/pipe'"]):
             self.due(self.run_it(self.work / "pipe"), 1, b"0 no 4\nend 0 1\n", "refused")
         self.assertIn("looks like a text", self.run_it("explain", WRONG + ".txt").err)
+        self.assertIn("looks like a text, of which `glubotar asm` makes a trace: -\n", self.run_it(data=b"warps 2\n").err)
 
 
 class TheProgramAlone(Launching):
@@ -199,12 +208,12 @@ class Names(Launching):
                 self.due(self.run_it("--", name, name, cwd=self.work), 0, good_row(name) * 2 + total(2, 20, 0, 0, 0))
 
     def test_tabs_and_line_ends(self):
-        odd = ["two\tcolumns", "two\nlines", "\x1b[31m", "x\nend 9 9\nfile y", "\x7f\r"]
-        shown = [b"two\\tcolumns", b"two\\nlines", b"\\x1b[31m", b"x\\nend 9 9\\nfile y", b"\\x7f\\r"]
+        odd = ["two\tcolumns", "two\nlines", "\x1b[31m", "x\nend 9 9\nfile y", "\x7f\r\x9b", "naïve\t"]
+        shown = [b"two\\tcolumns", b"two\\nlines", b"\\x1b[31m", b"x\\nend 9 9\\nfile y", b"\\x7f\\r\\x9b", "naïve\\t".encode()]
         for name in odd:
             self.file(name, (ROOT / WRONG).read_bytes())
         ran = self.run_it(*odd, cwd=self.work)
-        self.due(ran, 1, b"".join(map(wrong_row, shown)) + total(5, 10, 5, 0, 5), "two\\tcolumns 3:14, and 4 more")
+        self.due(ran, 1, b"".join(map(wrong_row, shown)) + total(6, 12, 6, 0, 6), "two\\tcolumns 3:14, and 5 more steps")
         joined = self.run_it("join", data=ran.out)
         self.assertEqual((joined.status, joined.out), (1, ran.out))
         listed = self.file("list", b"".join(name.encode() + b"\0" for name in odd))
@@ -284,7 +293,7 @@ class BadUse(Launching):
             self.due(self.run_it(*words), 2, b"", part)
 
     def test_help_and_version(self):
-        for words in (["--help"], ["-h"], ["help"], ["check", "--help"], [GOOD, "-h"]):
+        for words in (["--help"], ["-h"], ["check", "--help"], [GOOD, "-h"]):
             ran = self.run_it(*words)
             self.assertEqual((ran.status, ran.err), (0, ""))
             self.assertIn(b"\nExit status: 0 ", ran.out)
@@ -325,6 +334,8 @@ class Forms(Launching):
 
     def test_junit(self):
         odd = self.file("a\t<b>&\"\x1b", (ROOT / GOOD).read_bytes())
+        cut = self.file(b"list\xff", b"gone")
+        self.assertEqual(len(ElementTree.fromstring(self.run_it("--format", "junit", "--from", cut).out)), 1)
         ran = self.run_it("--format", "junit", WRONG, GOOD, "missing", odd, b"no\xffutf", "\uffff")
         self.assertEqual(ran.status, 2)
         suite = ElementTree.fromstring(ran.out)
@@ -348,7 +359,7 @@ class Join(Launching):
         first, second = self.run_it(*EXAMPLES).out, self.run_it(GOOD, "missing").out
         parts = [self.file("1", first), self.file("2", second)]
         self.due(self.run_it("join", *parts), 2, EXAMPLE_ROWS + good_row() + miss_row("missing") + total(12, 120, 5, 1, 3),
-                 "glubotar: refused: examples/drop_out.trace 14:5, and 4 more\n", "unreadable: missing")
+                 "glubotar: refused: examples/drop_out.trace 14:5, and 4 more steps\n", "unreadable: missing")
         self.due(self.run_it("join", data=first * 2), 1, EXAMPLE_ROWS * 2 + total(20, 220, 10, 0, 6), "refused")
         self.due(self.run_it("join", "-", data=good_row() + total(1, 10, 0, 0, 0)), 0, good_row() + total(1, 10, 0, 0, 0))
 

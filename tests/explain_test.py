@@ -187,7 +187,7 @@ t: 3 bytes, 40 warps; refused as a whole, no step is read
     Where to look: the trace's first byte
 """)
         self.assertTrue(of(b"\1" + b"\1\0" * 32768, "0 no 21\nend 0 1\n").startswith(
-            "t: 65,537 bytes, 1 warp; refused as a whole, no step is read\n    refused (21) because why 21\n"))
+            "t: more than 65,536 bytes, 1 warp; refused as a whole, no step is read\n    refused (21) because why 21\n"))
 
     def test_a_cut_step(self):
         self.assertEqual(of(b"\1\7\0\0", "1 no 2\nend 0 1\n"), """\
