@@ -55,9 +55,14 @@ class OneTrace(Launching):
             self.due(self.run_it("-", GOOD, stdin=writing), 2, miss_row("-") + good_row() + total(2, 10, 0, 1, 0), "unreadable: -")
         folder = os.open(ROOT, os.O_RDONLY)
         self.addCleanup(os.close, folder)
-        ran = self.run_it(stdin=folder)  # Python itself does not start
-        self.assertEqual((ran.status != 0, ran.out), (True, b""))
-        self.assertIn("is a directory", ran.err)
+        for words, due in (([], (2, b"")), (["-"], (2, b"")), ([WRONG], (1, WRONG_TEXT))):
+            ran = subprocess.run([GLUBOTAR, *words], cwd=ROOT, stdin=folder, capture_output=True, check=False)
+            self.assertEqual((ran.returncode, ran.stdout), due)
+            self.assertRegex(ran.stderr, b"glubotar: (unreadable: -: |refused: )")
+
+    def test_without_python(self):
+        ran = subprocess.run([GLUBOTAR, WRONG], cwd=ROOT, env={"PATH": "/nowhere"}, capture_output=True, check=False)
+        self.assertEqual((ran.returncode, ran.stdout, ran.stderr), (2, b"", b"glubotar: Python 3.9 or newer is needed\n"))
 
     def test_closed_streams(self):
         for closed, due in (("<&-", (1, WRONG_TEXT)), (">&-", (2, b"")), ("2>&-", (1, WRONG_TEXT)), ("<&- >&- 2>&-", (2, b""))):
