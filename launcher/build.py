@@ -12,7 +12,7 @@ from collections.abc import Iterator
 
 from launcher.guarded import run_guarded
 from launcher.project import EMULATOR, PROGRAM, Project
-from launcher.streams import Failure, progress, read_file, reason, say, write_all, write_whole
+from launcher.streams import Failure, file_of, progress, read_file, reason, say, write_all, write_whole
 
 PROVED = re.compile(rb"rt: \S+ proved")
 LOG_END = 20  # lines of a failed build's log that are shown
@@ -54,7 +54,7 @@ def build(project: Project) -> None:
     try:
         before = project.content(project.sources())
     except OSError as error:
-        raise Failure(f"a source can't be read: {named(error)}: {reason(error)}") from None
+        raise Failure(f"a source can't be read: {file_of(error, project.root)}: {reason(error)}") from None
     say(f"building the checker; it is proved first, which takes up to ten minutes (log: {log_of(project)})")
     run_rt(project, "check", "glubotar")
     try:
@@ -66,10 +66,6 @@ def build(project: Project) -> None:
         project.write_record(content, times, places)
     except OSError as error:
         raise Failure(f"the checker can't be kept in {project.checker}: {reason(error)}") from None
-
-
-def named(error: OSError) -> str:
-    return os.fsdecode(error.filename) if error.filename else "a file"
 
 
 def collect(project: Project) -> None:

@@ -2,7 +2,7 @@
 import os
 import re
 import textwrap
-from typing import Collection, Dict, Iterator, List, NamedTuple, Sequence, Tuple
+from typing import Collection, Dict, Iterator, List, Sequence, Tuple
 
 from launcher import MOST_BYTES
 from launcher.checker import Answer, Checker
@@ -15,31 +15,12 @@ from launcher.report import Conclusion, Total
 from launcher.sentences import read_refusals, said_of
 from launcher.streams import Failure, Output, read_file, reason
 from launcher.text_form import byte_text, step_text, token_text
+from launcher.verdicts import Verdict, verdict_of
 
-LINE = re.compile(r"([0-9]+) (?:ok ([0-9]+) ([01]) ([0-9a-f]{8})|no ([0-9]+))")
 END = re.compile(r"end ([0-9]+) ([0-9]+)")
 ENDS_THE_CHECK = (1, 2)  # refusals after which no step is read
 WIDTH = 88
 INDENT = "    "
-
-
-class Verdict(NamedTuple):
-    """A line of the checker: a refusal's number, or 0 and what the accepted step did."""
-    step: int
-    refusal: int
-    value: int = 0
-    done: bool = False
-    released: Tuple[int, ...] = ()
-
-
-def verdict_of(line: str) -> Verdict:
-    parts = LINE.fullmatch(line)
-    if not parts:
-        raise ValueError(f"The checker's line `{line[:40]}` is none that a checker prints.")
-    if parts[5]:
-        return Verdict(int(parts[1]), int(parts[5]))
-    released = tuple(warp for warp in range(MOST_WARPS) if int(parts[4], 16) >> warp & 1)
-    return Verdict(int(parts[1]), 0, int(parts[2]), parts[3] == "1", released)
 
 
 def verdicts_of(text: bytes) -> List[Verdict]:

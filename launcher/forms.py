@@ -11,23 +11,22 @@ from launcher.checker import Answer
 from launcher.names import said
 from launcher.report import PLAIN, SUMMARY, Report, Total
 from launcher.sentences import said_of
-from launcher.streams import Output
-
+from launcher.streams import Failure, Output
+from launcher.verdicts import verdict_of
 
 NO_XML = re.compile("[\ud800-\udfff\ufffe\uffff]")  # what no XML has: bytes that are no UTF-8 among it
 
 
-def warps_of(mask: int) -> list[int]:
-    return [warp for warp in range(32) if mask >> warp & 1]
-
-
-def step_of(line: bytes) -> dict[str, Any]:
-    """A line `N ok V D M` or `N no R` as an object."""
-    words = line.split()
-    if words[1] == b"no":
-        return {"step": int(words[0]), "ok": False, "refusal": int(words[2])}
-    return {"step": int(words[0]), "ok": True, "value": int(words[2]), "done": words[3] == b"1",
-            "released": warps_of(int(words[4], 16))}
+def step_of(line: str) -> dict[str, Any]:
+    """A line of the checker as an object."""
+    try:
+        verdict = verdict_of(line)
+    except ValueError as error:
+        raise Failure(str(error)) from None
+    if verdict.refusal:
+        return {"step": verdict.step, "ok": False, "refusal": verdict.refusal}
+    return {"step": verdict.step, "ok": True, "value": verdict.value, "done": verdict.done,
+            "released": list(verdict.released)}
 
 
 class Json(Report):
@@ -48,7 +47,7 @@ class Json(Report):
         if answer.first:
             value["first"] = {"step": answer.first[0], "refusal": answer.first[1]}
         if self.form != SUMMARY:
-            value["steps"] = [step_of(line) for line in answer.text.splitlines()[:-1]]
+            value["steps"] = [step_of(line) for line in answer.text.decode().splitlines()[:-1]]
         self.put(value)
 
     def end(self, total: Total) -> None:

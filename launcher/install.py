@@ -8,7 +8,7 @@ import shutil
 from launcher import VERSION
 from launcher.build import lock, run_rt
 from launcher.project import Project
-from launcher.streams import Failure, read_file, reason, write_whole
+from launcher.streams import Failure, file_of, read_file, reason, write_whole
 
 ARCHIVE = "libglubotar_c.a"
 PKG_CONFIG = f"""\
@@ -36,7 +36,7 @@ def install(root: str, prefix: str) -> None:
             install_launcher(project, prefix)
             install_library(project, prefix)
     except OSError as error:
-        raise Failure(f"{os.fsdecode(error.filename or prefix)} can't be written: {reason(error)}") from None
+        raise Failure(f"{file_of(error, prefix)} can't be written: {reason(error)}") from None
 
 
 def install_launcher(project: Project, prefix: str) -> None:

@@ -4,7 +4,7 @@ from __future__ import annotations
 import os
 from collections.abc import Iterator
 
-from launcher.streams import Failure, read_file, reason
+from launcher.streams import Failure, file_of, read_file, reason
 
 STANDARD_INPUT = b"-"
 ESCAPES = {"\t": "\\t", "\n": "\\n", "\r": "\\r"}
@@ -93,7 +93,7 @@ def traces_in(folder: bytes) -> list[bytes]:
     try:
         found = list(gone_through(folder))
     except OSError as error:
-        at = os.fsencode(error.filename) if error.filename else folder
+        at = os.fsencode(file_of(error, os.fsdecode(folder)))
         raise Failure(f"a folder can't be gone through: {said(at)}: {reason(error)}") from None
     if not found:
         raise Failure(f"no *.trace is in the folder {said(folder)}")

@@ -27,6 +27,11 @@ def reason(error: OSError) -> str:
     return words.get(type(error)) or (error.strerror or str(error)).lower()
 
 
+def file_of(error: OSError, otherwise: str) -> str:
+    """The name of the file that an error is about."""
+    return os.fsdecode(error.filename) if error.filename else otherwise
+
+
 def fill_closed_streams() -> None:
     """Gives the numbers 0 to 2 to nothing else where they are closed. To read or to write there still fails."""
     for number in (INPUT, OUTPUT, ERRORS):

@@ -279,6 +279,13 @@ class Checkers(WithKit):
                     self.assertEqual((ran.status, ran.out.count(b"odd\t")), (2, 0))
                     self.assertIn("glubotar: the checker", ran.err)
 
+    def test_lines_that_no_checker_prints(self):
+        self.trace("odd", "echo 1 perhaps; echo end 1 0")
+        for words in (["--format", "json", "odd"], ["--format", "json", "--lines", "plain", "odd"]):
+            ran = self.go("-j1", *words)
+            self.assertEqual((ran.status, ran.out.count(b"odd")), (2, 0))
+            self.assertRegex(ran.err, r"\Aglubotar: The checker's line `1 perhaps` [^\n]*\n\Z")
+
     def test_the_same_of_standard_input(self):
         for says in ("exit 0", "echo 1 ok; exit 0", "echo end 0 0; exit 1", "echo end 0 0; echo end 0 0", "kill -9 $$"):
             self.trace("on_input", says)
