@@ -1,5 +1,7 @@
 // Answering traces: each is read, its text laid and written.
 // Without arguments the trace is standard input; else each argument names a trace file.
+#![tactic(auto)]
+
 pub mod output;
 
 ghost use Rattle.std.specs.Prelude.{◌≡◌, ◌+◌};

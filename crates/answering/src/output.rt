@@ -12,7 +12,7 @@ use reading::{Failure, Read};
 const MOST: usize = 18446744073709551615;
 
 // Whether standard input was answered, up to which argument the files were, and whether no write failed so far.
-#[derive(Drop)]
+#[derive(Clone, Copy)]
 pub struct Written {
     input: bool,
     files: usize,

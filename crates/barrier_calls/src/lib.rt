@@ -1,4 +1,6 @@
 // What sync, arrive and red ask of a barrier, one call for the three.
+#![tactic(auto)]
+
 ghost use Rattle.std.specs.Prelude.{◌≡◌};
 ghost use Rattle.barrier_calls.specs.Calls.{form_of, lanes_of, sync_call, arrive_call, red_call};
 

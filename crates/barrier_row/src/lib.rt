@@ -1,4 +1,6 @@
 // One barrier's row: what an arrival finds in it and makes of it, whether it completes, and its result.
+#![tactic(auto)]
+
 ghost use Rattle.std.specs.Prelude.{◌≡◌, cond, ◌+◌};
 ghost use Rattle.sets.specs.Sets.{put};
 ghost use Rattle.barrier_row.specs.Rows.{count_of, bad_threads, clashes as clashes_of, up_to_largest, arrived_row, completes as completes_of, result_of};

@@ -1,4 +1,6 @@
 // Whether one barrier row is sound by itself: a function to each of 01's clauses, and all of them.
+#![tactic(auto)]
+
 ghost use Rattle.std.specs.Prelude.{◌≡◌};
 ghost use Rattle.block.specs.Tables.{sets_inside, waiting_arrived, idle_zero, active_arrived, active_count, count_open, all_open, reduction_waits, plain_none, row_sound};
 

@@ -1,4 +1,6 @@
 // The block: its warps and its sixteen named barriers, by value, and what one row of a warp says.
+#![tactic(auto)]
+
 ghost use Rattle.std.specs.Prelude.{◌≡◌, ◌&&◌, eqb};
 ghost use Rattle.block.specs.Tables.{form_number, is_ready, fresh_warp, idle, fresh_block};
 
@@ -11,20 +13,20 @@ pub const LANE_COUNT: u32 = 32;
 // There are sixteen named barriers.
 pub const BARRIER_COUNT: u8 = 16;
 
-#[derive(Drop)]
+#[derive(Clone, Copy)]
 pub enum Status {
     Ready,
     Waiting(u8),
     Exited,
 }
 
-#[derive(Drop)]
+#[derive(Clone, Copy)]
 pub struct Warp {
     pub status: Status,
     pub result: u32,
 }
 
-#[derive(Drop)]
+#[derive(Clone, Copy)]
 pub enum Form {
     Idle,
     Plain,
@@ -34,7 +36,7 @@ pub enum Form {
 }
 
 // A barrier's row. Thread count 0 means all.
-#[derive(Drop)]
+#[derive(Clone, Copy)]
 pub struct Barrier {
     pub form: Form,
     pub threads: u16,
@@ -43,7 +45,7 @@ pub struct Barrier {
     pub trues: u32,
 }
 
-#[derive(Drop)]
+#[derive(Clone, Copy)]
 pub struct Block {
     pub warps: u8,
     pub rows: [Warp; MOST_WARPS as usize],
@@ -51,14 +53,14 @@ pub struct Block {
 }
 
 // The thread count that a step asks for.
-#[derive(Drop)]
+#[derive(Clone, Copy)]
 pub enum Threads {
     All,
     Given(u16),
 }
 
 // What a named-barrier step asks for: its form (Idle where its selector names none), its thread count, whether it waits, its true lanes.
-#[derive(Drop)]
+#[derive(Clone, Copy)]
 pub struct Call {
     pub form: Form,
     pub threads: Threads,
@@ -67,7 +69,7 @@ pub struct Call {
 }
 
 // What a step answers.
-#[derive(Drop)]
+#[derive(Clone, Copy)]
 pub enum Verdict {
     Refused(u8),
     Accepted {
@@ -78,7 +80,7 @@ pub enum Verdict {
 }
 
 // A verdict, and the block after the step.
-#[derive(Drop)]
+#[derive(Clone, Copy)]
 pub struct Turn {
     pub verdict: Verdict,
     pub block: Block,

@@ -1,4 +1,6 @@
 // Sync, arrive and red: lines 6 to 10 of the refusal table, and what an arrival changes in the block.
+#![tactic(auto)]
+
 ghost use Rattle.std.specs.Prelude.{◌≡◌};
 ghost use Rattle.folds.specs.Folds.{lowest};
 ghost use Rattle.block_steps.specs.Steps.{call_lines};

@@ -1,4 +1,6 @@
 // Exit: the barrier that completes without the warp, and what an exit changes in the block.
+#![tactic(auto)]
+
 ghost use Rattle.std.specs.Prelude.{◌≡◌};
 ghost use Rattle.block_steps.specs.Changes.{first_opening, exiting};
 

@@ -1,1 +1,3 @@
 // Theorems only: what the steps of the block keep, release and leave.
+#![tactic(auto)]
+

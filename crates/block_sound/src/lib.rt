@@ -1,4 +1,6 @@
 // Whether a block's tables are sound, in the form that document 01 names: every barrier row against every warp's status, the first disagreement ends the check.
+#![tactic(auto)]
+
 ghost use Rattle.std.specs.Prelude.{◌≡◌};
 ghost use Rattle.block.specs.Tables.{is_exited, waits_at, waits_placed, warp_sound, live_of, warps_sound, rows_sound, agreeing, sound_block};
 

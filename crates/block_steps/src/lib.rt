@@ -1,4 +1,6 @@
 // What a step changes in the block, and what every arrival and exit is made of: lines 4 and 5, and the ways a step ends.
+#![tactic(auto)]
+
 ghost use Rattle.std.specs.Prelude.{◌≡◌};
 ghost use Rattle.folds.specs.Folds.{lowest};
 ghost use Rattle.block_steps.specs.Steps.{warp_lines};
@@ -7,7 +9,7 @@ ghost use Rattle.block_steps.specs.Changes.{none_freed, no_change, refusing, goi
 use block::{BARRIER_COUNT, Barrier, MOST_WARPS, Status, Verdict, Warp};
 
 // A release: the set of warps that it makes ready, and the result that they get if it gives one.
-#[derive(Drop)]
+#[derive(Clone, Copy)]
 pub struct Freed {
     pub set: u32,
     pub gives: bool,
@@ -15,7 +17,7 @@ pub struct Freed {
 }
 
 // What a step changes in the block: the status of a warp, the row of a barrier, and who is released. Warp 32, barrier 16 and an empty set stand for none.
-#[derive(Drop)]
+#[derive(Clone, Copy)]
 pub struct Change {
     pub warp: usize,
     pub status: Status,
@@ -25,7 +27,7 @@ pub struct Change {
 }
 
 // A verdict, and what the step changes in the block.
-#[derive(Drop)]
+#[derive(Clone, Copy)]
 pub struct Moved {
     pub verdict: Verdict,
     pub change: Change,

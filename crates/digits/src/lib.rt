@@ -1,4 +1,6 @@
 // Numbers and sets of warps as digits, laid into a buffer that the caller lends.
+#![tactic(auto)]
+
 ghost use Rattle.std.specs.Prelude.{◌≡◌, ◌≤◌, ◌<◌, length};
 ghost use Rattle.fields.specs.Num.{laid};
 ghost use Rattle.io.specs.Digits.{last_digits, hex_digit_ascii as glyph_of};

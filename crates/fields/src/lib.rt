@@ -1,4 +1,6 @@
 // Little-endian numbers in a slice: one reader for every width up to 8, and the four widths that steps have, each in the type that just holds it.
+#![tactic(auto)]
+
 ghost use Rattle.std.specs.Prelude.{◌≡◌, ◌≤◌, ◌<◌, drop, get_or};
 ghost use Rattle.fields.specs.Num.{num, room, up_to8};
 

@@ -1,4 +1,6 @@
 // Little-endian numbers laid into a slice: one writer for every width.
+#![tactic(auto)]
+
 ghost use Rattle.std.specs.Prelude.{◌≡◌, ◌+◌, ◌≤◌, length};
 ghost use Rattle.std.proofs.lemmas.List.Edits.{sets};
 ghost use Rattle.fields.specs.Num.{bytes, laid};

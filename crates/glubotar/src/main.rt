@@ -1,4 +1,6 @@
 // The checker's program: answers standard input, or each trace file that an argument names.
+#![tactic(auto)]
+
 use reading::TRACE_ROOM;
 use whole_text::TEXT_ROOM;
 

@@ -1,4 +1,6 @@
 // The checker for C and C++: numbers, byte slices and one struct of numbers (include/glubotar.h).
+#![tactic(auto)]
+
 ghost use Rattle.std.specs.Prelude.{◌≡◌, length};
 ghost use Rattle.fields.specs.Num.{laid};
 ghost use Rattle.trace_text.specs.Text.{text_of, room_for, counts_of};

@@ -1,4 +1,6 @@
 // The tables that the caller lends: which row a step names.
+#![tactic(auto)]
+
 ghost use Rattle.std.specs.Prelude.{◌≡◌};
 ghost use Rattle.tables.specs.Tables.{slot_of};
 

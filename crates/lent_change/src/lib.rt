@@ -1,4 +1,6 @@
 // The block changed where it lies: whoever lends it has it changed without a copy.
+#![tactic(auto)]
+
 ghost use Rattle.std.specs.Prelude.{◌≡◌, cond, ltb};
 ghost use Rattle.block_steps.specs.Steps.{released_warp, released_warps};
 ghost use Rattle.block_steps.specs.Changes.{changed};

@@ -1,4 +1,6 @@
 // Fresh tables over the list of object rows and the tally that the caller lends, and their parts by value.
+#![tactic(auto)]
+
 ghost use Rattle.std.specs.Prelude.{◌≡◌};
 ghost use Rattle.tables.specs.Tables.{fresh_tally};
 ghost use Rattle.lent.specs.Entries.{fresh_refusal, fresh_turn, Freshened};

@@ -1,4 +1,6 @@
 // One row of a block stored where the block lies: a warp's status, a barrier's row.
+#![tactic(auto)]
+
 ghost use Rattle.std.specs.Prelude.{◌≡◌, get_or, set};
 ghost use Rattle.block.specs.Tables.{fresh_warp, idle};
 ghost use Rattle.block_steps.specs.Changes.{with_status};

@@ -1,4 +1,6 @@
 // The way in for a run: tables are checked once, or are fresh, and then gone on with step after step without a check. Who is live is kept beside them.
+#![tactic(auto)]
+
 ghost use Rattle.std.specs.Prelude.{◌≡◌, ◌&&◌};
 ghost use Rattle.block.specs.Tables.{live_of, sound_block};
 ghost use Rattle.tables.specs.Tables.{fresh_tables, is_accepted};
@@ -11,14 +13,14 @@ use steps::Step;
 use tables::Tally;
 
 // What is known of tables: whether they are sound and, where they are, which warps have not exited. No other crate makes one: a check does, fresh tables have one, and going on hands the next one back.
-#[derive(Drop)]
+#[derive(Clone, Copy)]
 pub struct Checked {
     sound: bool,
     live: u32,
 }
 
 // A step's verdict, and what is known of the tables after it.
-#[derive(Drop)]
+#[derive(Clone, Copy)]
 pub struct Gone {
     pub verdict: Verdict,
     pub checked: Checked,

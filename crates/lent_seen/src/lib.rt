@@ -1,4 +1,6 @@
 // What a step sees of a block that the caller lends: the rows that it names are copied from where they lie, and all sixteen barriers for an exit alone.
+#![tactic(auto)]
+
 ghost use Rattle.std.specs.Prelude.{◌≡◌};
 ghost use Rattle.tables.specs.Tables.{barrier_for, seen_of};
 

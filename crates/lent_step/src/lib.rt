@@ -1,4 +1,6 @@
 // The step where the caller lends everything: block, list and tally are changed where they lie.
+#![tactic(auto)]
+
 ghost use Rattle.lent.specs.Entries.{state_of, Stepped};
 
 use block::{Block, Verdict};

@@ -1,4 +1,6 @@
 // One mbarrier object's row by value: when it is sound, its token, init and inval.
+#![tactic(auto)]
+
 ghost use Rattle.std.specs.Prelude.{◌≡◌};
 ghost use Rattle.object.specs.Tokens.{token, pending_count};
 ghost use Rattle.object.specs.Row.{dead, outside, step_row};
@@ -23,7 +25,7 @@ pub const PHASE_UNIT: u64 = 67108864;
 pub const TOKEN_END: u64 = 288230376151711744;
 
 // An object's row; seen says whether the previous phase was seen.
-#[derive(Drop)]
+#[derive(Clone, Copy)]
 pub struct Object {
     pub live: bool,
     pub expected: u32,
@@ -34,7 +36,7 @@ pub struct Object {
 }
 
 // A step on a row. Arrive is every arrival and drop: its expectation is 0 where none is attached.
-#[derive(Drop)]
+#[derive(Clone, Copy)]
 pub enum Act {
     Init(u32),
     Inval,
@@ -51,14 +53,14 @@ pub enum Act {
 }
 
 // What a step answers: the lowest refusal number, or the row after it, the value and whether the phase completed.
-#[derive(Drop)]
+#[derive(Clone, Copy)]
 pub enum Answer {
     Refused(u8),
     Accepted { row: Object, value: u64, done: bool },
 }
 
 // What pending count answers: a refusal number, or the count.
-#[derive(Drop)]
+#[derive(Clone, Copy)]
 pub enum Count {
     NoToken(u8),
     Pending(u64),

@@ -1,4 +1,6 @@
 // The list of object rows that the caller lends: one row copied or stored, whether all are sound, and all made dead.
+#![tactic(auto)]
+
 ghost use Rattle.std.specs.Prelude.{◌≡◌, length, get_or, set, replicate};
 ghost use Rattle.object.specs.Row.{dead};
 ghost use Rattle.tables.specs.Tables.{sound_objects};

@@ -1,11 +1,13 @@
 // What changes a phase: arrivals, drops, expects and completes on one object's row.
+#![tactic(auto)]
+
 ghost use Rattle.std.specs.Prelude.{◌≡◌, true, false, cond, eqb, pos, ◌+ℤ◌, ◌-ℤ◌};
 ghost use Rattle.object.specs.Row.{last_phase, outside, with_tx, expects, completes, arrives, both_zero, next_phase, bad_arrival, step_row};
 
 use object::{Act, Answer, LAST_PHASE, Object};
 
 // A row whose transaction count was to change, or that the count would leave its range.
-#[derive(Drop)]
+#[derive(Clone, Copy)]
 enum Moved {
     Out,
     To(Object),

@@ -1,4 +1,6 @@
 // The tests of a phase, and every step on one object's row.
+#![tactic(auto)]
+
 ghost use Rattle.std.specs.Prelude.{◌≡◌, false};
 ghost use Rattle.folds.specs.Folds.{digit};
 ghost use Rattle.object.specs.Row.{told, step_row};

@@ -1,4 +1,6 @@
 // Block, list and tally by value: the step and fresh tables for whoever owns what they are lent.
+#![tactic(auto)]
+
 ghost use Rattle.std.specs.Prelude.{◌≡◌};
 ghost use Rattle.owned.specs.Owner.{bundled, owned_step, owned_fresh};
 
@@ -8,7 +10,7 @@ use steps::Step;
 use tables::Tally;
 
 // Block, list and tally by value, for whoever owns them.
-#[derive(Drop)]
+#[derive(Clone, Copy)]
 pub struct Owned {
     pub block: Block,
     pub objects: [Object; SLOTS],
@@ -16,7 +18,7 @@ pub struct Owned {
 }
 
 // A verdict, and what is owned after the step.
-#[derive(Drop)]
+#[derive(Clone, Copy)]
 pub struct OwnedTurn {
     pub verdict: Verdict,
     pub state: Owned,

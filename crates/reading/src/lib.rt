@@ -1,4 +1,6 @@
 // Reading traces. What was read is told by a `Read`, and that it can't be read by a `Failure`; each tells of which argument. Only the functions here make them, so that no other function can answer for more bytes than were read or for fewer, take one file for another, or call a trace unreadable that nobody tried to read.
+#![tactic(auto)]
+
 ghost use Rattle.std.specs.Prelude.{◌≡◌};
 ghost use Rattle.io.specs.Counts.{IsPrefixLen};
 ghost use Rattle.reading.specs.Reading.{Fills, path_of};
@@ -10,7 +12,7 @@ use trace_look::MOST_BYTES;
 pub const TRACE_ROOM: usize = MOST_BYTES + 1;
 
 // What was read: the number of the argument that names the file, 0 for standard input; so many bytes of its path at the start of one buffer; and so many bytes of the trace at the start of another.
-#[derive(Drop)]
+#[derive(Clone, Copy)]
 pub struct Read {
     number: usize,
     path: usize,
@@ -18,7 +20,7 @@ pub struct Read {
 }
 
 // What could not be read: the number and the path as above, and what the C library answered.
-#[derive(Drop)]
+#[derive(Clone, Copy)]
 pub struct Failure {
     number: usize,
     path: usize,
@@ -26,7 +28,7 @@ pub struct Failure {
 }
 
 // What reading a whole trace comes to.
-#[derive(Drop)]
+#[derive(Clone, Copy)]
 pub enum Filled {
     Bytes(Read),
     Failed(Failure),

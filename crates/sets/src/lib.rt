@@ -1,4 +1,6 @@
 // Sets of warps as u32 masks, warp 0 lowest: has, put, less, part, within, size. Each takes any set and any warp.
+#![tactic(auto)]
+
 ghost use Rattle.std.specs.Prelude.{◌≡◌, ◌-◌, ◌^◌, min};
 ghost use Rattle.sets.specs.Sets.{has as has_of, put as put_of, less as less_of, part as part_of, within as within_of, size as size_of};
 

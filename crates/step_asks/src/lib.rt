@@ -1,4 +1,6 @@
 // What a step asks: of a barrier as one call, and of an object as one act.
+#![tactic(auto)]
+
 ghost use Rattle.std.specs.Prelude.{◌≡◌, false};
 ghost use Rattle.tables.specs.Refusals.{call_of, act_of};
 

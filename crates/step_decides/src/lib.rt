@@ -1,4 +1,6 @@
 // The whole step decided, on what it sees of the tables and the one object row that it names: its verdict, and what it changes.
+#![tactic(auto)]
+
 ghost use Rattle.std.specs.Prelude.{◌≡◌};
 ghost use Rattle.tables.specs.Tables.{is_exit, named_barrier};
 ghost use Rattle.step_decides.specs.Decides.{refusing, in_block, answering, object_decided, pending_decided, kind_decided, decided_on};
@@ -10,7 +12,7 @@ use steps::{ObjectStep, Op, Step};
 use tables::{LAST_ADDRESS, OBJECT_SIZE, Seen};
 
 // What a step decides: its verdict, what it changes in the block, and the row of the object that it names.
-#[derive(Drop)]
+#[derive(Clone, Copy)]
 pub struct Decided {
     pub verdict: Verdict,
     pub change: Change,

@@ -1,4 +1,6 @@
 // A step, its bytes read, and the table of body lengths; what writing it promises is stated here too.
+#![tactic(auto)]
+
 ghost use Rattle.std.specs.Prelude.{◌≡◌, List, [], ◌∷◌, ℕ, ◌+◌, ◌<◌, drop};
 ghost use Rattle.fields.specs.Row.{decode};
 ghost use Rattle.steps.specs.declared.Op.TheVariants.{Barrier, Object};
@@ -9,7 +11,7 @@ pub mod kinds;
 pub mod lengths;
 
 // What a warp does at a named barrier.
-#[derive(Drop)]
+#[derive(Clone, Copy)]
 pub enum BarrierStep {
     SyncAll,
     Sync(u16),
@@ -26,7 +28,7 @@ pub enum BarrierStep {
 }
 
 // What a warp does with an mbarrier object.
-#[derive(Drop)]
+#[derive(Clone, Copy)]
 pub enum ObjectStep {
     Init(u32),
     Inval,
@@ -43,7 +45,7 @@ pub enum ObjectStep {
 }
 
 // The nineteen kinds: a barrier step with its barrier, an object step with its address, a pending count with its token.
-#[derive(Drop)]
+#[derive(Clone, Copy)]
 pub enum Op {
     Exit,
     Barrier(u8, BarrierStep),
@@ -52,27 +54,27 @@ pub enum Op {
 }
 
 // One decoded instruction of one warp.
-#[derive(Drop)]
+#[derive(Clone, Copy)]
 pub struct Step {
     pub warp: u8,
     pub op: Op,
 }
 
 // The place in a trace at which the next step is read.
-#[derive(Drop)]
+#[derive(Clone, Copy)]
 pub struct Cursor {
     pub at: usize,
 }
 
 // A step with the cursor after it, or the refusal.
-#[derive(Drop)]
+#[derive(Clone, Copy)]
 pub enum Read {
     Found(Step, Cursor),
     Refused(u8),
 }
 
 // The place after a step that was written, or the refusal.
-#[derive(Drop)]
+#[derive(Clone, Copy)]
 pub enum Wrote {
     Next(usize),
     Refused(u8),

@@ -1,5 +1,7 @@
 // Reads and rewrites steps of every kind, whole and cut, steps of unknown kinds, and document 01's whole case.
 // A line for each reading: what the step says, the place after it and its bytes, written anew; or the refusal.
+#![tactic(auto)]
+
 use libc::STDOUT_FILENO;
 use steps::{BarrierStep, Cursor, ObjectStep, Op, Read, Step, Wrote};
 

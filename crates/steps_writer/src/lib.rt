@@ -1,4 +1,6 @@
 // A step's bytes, written.
+#![tactic(auto)]
+
 ghost use Rattle.std.specs.Prelude.{◌≡◌, ◌+◌, ◌≤◌, ◌<◌, length};
 ghost use Rattle.std.proofs.lemmas.List.Edits.{sets};
 ghost use Rattle.fields.specs.Row.{encode};
@@ -9,7 +11,7 @@ use steps::{BarrierStep, ObjectStep, Op, Step, Wrote, kinds, lengths};
 mod widths;
 
 // A step's kind, and its row of numbers: the warp, and up to four fields more.
-#[derive(Drop)]
+#[derive(Clone, Copy)]
 struct Parts(u8, [u64; 5]);
 
 // The parts of a named-barrier step.

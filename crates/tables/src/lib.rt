@@ -1,4 +1,6 @@
 // What a step sees of the tables and what it leaves, the object that it names, and the tally.
+#![tactic(auto)]
+
 ghost use Rattle.std.specs.Prelude.{◌≡◌};
 ghost use Rattle.tables.specs.Tables.{slot_of, counted, tallied};
 
@@ -13,7 +15,7 @@ pub const OBJECT_SIZE: u16 = 8;
 pub const LAST_ADDRESS: u16 = 504;
 
 // What a step sees of the tables: whether they are sound; how many warps the block has, and which of them have not exited; the row of its warp; the barrier whose row it may change, 16 for none, and that row.
-#[derive(Drop)]
+#[derive(Clone, Copy)]
 pub struct Seen {
     pub sound: bool,
     pub warps: u8,
@@ -24,7 +26,7 @@ pub struct Seen {
 }
 
 // What a step leaves: its verdict, the block, and the row of the object that it names.
-#[derive(Drop)]
+#[derive(Clone, Copy)]
 pub struct Taken {
     pub verdict: Verdict,
     pub block: Block,
@@ -32,7 +34,7 @@ pub struct Taken {
 }
 
 // How many steps were accepted and refused.
-#[derive(Drop)]
+#[derive(Clone, Copy)]
 pub struct Tally {
     pub accepted: u32,
     pub refused: u32,

@@ -1,4 +1,6 @@
 // The tally that the caller lends counts a verdict in place.
+#![tactic(auto)]
+
 ghost use Rattle.std.specs.Prelude.{◌≡◌};
 ghost use Rattle.tables.specs.Tables.{tallied};
 

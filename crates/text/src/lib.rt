@@ -1,4 +1,6 @@
 // The text of a whole trace, laid into a buffer that the caller lends.
+#![tactic(auto)]
+
 ghost use Rattle.std.specs.Prelude.{◌≡◌, leb, length};
 ghost use Rattle.fields.specs.Num.{laid};
 ghost use Rattle.trace_text.specs.Text.{text_of, room_for, counts_of};
@@ -9,7 +11,7 @@ use trace_look::MOST_BYTES;
 use trace_text::Counts;
 
 // The length of the text that was laid; or that the buffer is too short.
-#[derive(Drop)]
+#[derive(Clone, Copy)]
 pub enum Laid {
     Length(usize),
     Short,

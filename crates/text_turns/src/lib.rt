@@ -1,4 +1,6 @@
 // The lines of a whole trace, laid one after the other into a buffer that the caller lends.
+#![tactic(auto)]
+
 ghost use Rattle.std.specs.Prelude.{◌≡◌, ◌+◌, ◌<◌, get_or};
 ghost use Rattle.fields.specs.Num.{laid};
 ghost use Rattle.lines.specs.Lines.{most_line, line_of};
@@ -17,7 +19,7 @@ use trace_text::{Counts, First};
 const LAST_NUMBER: u64 = LARGEST as u64;
 
 // What a text tells: its length, and its numbers.
-#[derive(Drop)]
+#[derive(Clone, Copy)]
 pub struct Summary {
     pub length: usize,
     pub counts: Counts,

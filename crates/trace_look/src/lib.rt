@@ -1,4 +1,6 @@
 // A trace as it is gone through: why it is refused before its steps, and what stands at a place in it.
+#![tactic(auto)]
+
 ghost use Rattle.std.specs.Prelude.{◌≡◌};
 ghost use Rattle.trace_text.specs.Text.{trace_refusal};
 ghost use Rattle.trace_look.specs.Places.{first_place, looked};
@@ -11,7 +13,7 @@ use trace_text::First;
 pub const MOST_BYTES: usize = 65536;
 
 // A text that is being laid: whether a step was found at the run's place, else why the run stops there, 1, 2 or 0 where no byte is left; the place after what is laid; the place of the next step; the step that was found; the first refused line of those that are laid.
-#[derive(Drop)]
+#[derive(Clone, Copy)]
 pub struct Laying {
     pub going: bool,
     pub stop: u8,

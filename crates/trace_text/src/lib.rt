@@ -1,7 +1,9 @@
 // The text of a whole trace and what holds of it: definitions and theorems, and the numbers that a text tells.
+#![tactic(auto)]
+
 
 // The first `N no R` line of a text: its N and its R; both 0 where there is none.
-#[derive(Drop)]
+#[derive(Clone, Copy)]
 pub struct First {
     pub step: u32,
     pub refusal: u32,
@@ -9,7 +11,7 @@ pub struct First {
 
 // The numbers of a text: A and B of its end line, and N and R of its first `N no R` line.
 #[repr(C)]
-#[derive(Drop)]
+#[derive(Clone, Copy)]
 pub struct Counts {
     pub accepted: u32,
     pub refused: u32,

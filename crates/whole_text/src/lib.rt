@@ -1,4 +1,6 @@
 // Laying the whole text of a trace that was read, in a buffer that is never too short.
+#![tactic(auto)]
+
 ghost use Rattle.std.specs.Prelude.{◌≡◌, length};
 ghost use Rattle.reading.specs.Reading.{read_of};
 ghost use Rattle.whole_text.specs.Whole.{LaysWhole};
