@@ -9,8 +9,10 @@ returns-then-s-at c = number_past c.args.s.now c.args.at c.args.width c.if-s-at.
 
 pub returns-then-width-gt8 : goal.returns-then-width-gt8
 returns-then-width-gt8 c =
-    number_cut c.args.s.now c.args.at c.args.width 8 _ (up_to8_wide _ c.if-width-gt8.true) c.number_in.ensures
+    let a = c.args in
+    number_cut a.s.now a.at a.width 8 _ (up_to8_wide _ c.if-width-gt8.true) c.number_in.ensures
 
 pub returns : goal.returns
 returns c =
-    number_cut c.args.s.now c.args.at c.args.width c.args.width _ (up_to8_narrow _ c.if-width-gt8.false) c.number_in-2.ensures
+    let a = c.args in
+    number_cut a.s.now a.at a.width a.width _ (up_to8_narrow _ c.if-width-gt8.false) c.number_in-2.ensures

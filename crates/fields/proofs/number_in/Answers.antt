@@ -23,7 +23,9 @@ again : (c : goal.After-byte-b)
     ≡ num (c.args.width - (c.loop-i.i - 1))
     (drop (c.loop-i.i - 1) c.args.s.now)
 again c =
-    rw c.byte-b.ensures (turn c.args.s.now c.args.width c.loop-i.i c.loop-i.v (omega arith) (omega arith) c.loop-i.invariant.1)
+    let a = c.args in
+    let l = c.loop-i in
+    rw c.byte-b.ensures (turn a.s.now a.width l.i l.v (omega arith) (omega arith) l.invariant.1)
 
 -- what a turn makes fits: it is a number in at most eight bytes
 fits : (c : goal.After-byte-b) → c.loop-i.v * 256 + c.byte-b.result < 18446744073709551616
@@ -32,14 +34,8 @@ fits c =
     rw (again c)
     (num_small (c.args.width - p) _ (bytes_drop p c.args.s.now (λ i. (c.shared_slice_known-1.given i).fits)) (omega arith))
 
--- GONE loop-holds
--- loop-holds c = (omega arith, rw sub_self)
-
--- GONE loop-less
--- loop-less c = omega arith
-
--- GONE loop-again
--- loop-again c = (omega arith, again c)
+pub loop-i-init : goal.loop-i-init
+loop-i-init c = (omega arith, rw sub_self)
 
 pub overflow_sub-i : goal.overflow_sub-i
 overflow_sub-i c = omega arith
@@ -53,9 +49,17 @@ overflow_cast-v c = omega (arith, fits c)
 pub overflow_add-v : goal.overflow_add-v
 overflow_add-v c = omega (arith, fits c)
 
+pub loop-i-smaller : goal.loop-i-smaller
+loop-i-smaller c = omega arith
+
+pub loop-i-preserved : goal.loop-i-preserved
+loop-i-preserved c = (omega arith, again c)
+
 pub returns : goal.returns
 returns c =
-    let e₁ : c.args.width - c.loop-i.i ≡ c.args.width = omega arith in
-    let e₂ : c.loop-i.i ≡ 0 = omega arith in
-    let e : c.loop-i.v ≡ num c.args.width c.args.s.now = c.loop-i.invariant.1 ∙ rw (e₁, e₂) in
-    (e, rw e (num_lt c.args.width _ (λ c.loop-i.i. (c.shared_slice_known-1.given c.loop-i.i).fits)))
+    let a = c.args in
+    let i = c.loop-i.i in
+    let e₁ : a.width - i ≡ a.width = omega arith in
+    let e₂ : i ≡ 0 = omega arith in
+    let e : c.loop-i.v ≡ num a.width a.s.now = c.loop-i.invariant.1 ∙ rw (e₁, e₂) in
+    (e, rw e (num_lt a.width _ (λ i. (c.shared_slice_known-1.given i).fits)))

@@ -11,10 +11,12 @@ overflow_sub-result c = rw (one_shifted c.args.n (omega arith)) (pow_pos c.args.
 
 pub returns-then-n-lt32 : goal.returns-then-n-lt32
 returns-then-n-lt32 c =
-    let q : c.args.n ≡ min c.args.n 32 = omega arith in
-    rw (one_shifted c.args.n (omega arith)) (ap (λ (k : ℕ). 2 ^ k - 1) q)
+    let n = c.args.n in
+    let q : n ≡ min n 32 = omega arith in
+    rw (one_shifted n (omega arith)) (ap (λ (k : ℕ). 2 ^ k - 1) q)
 
 pub returns-else-n-lt32 : goal.returns-else-n-lt32
 returns-else-n-lt32 c =
-    let q : 32 ≡ min c.args.n 32 = omega arith in
+    let n = c.args.n in
+    let q : 32 ≡ min n 32 = omega arith in
     ap (λ (k : ℕ). 2 ^ k - 1) q

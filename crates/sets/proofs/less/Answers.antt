@@ -7,10 +7,10 @@ pub overflow_shl-result : goal.overflow_shl-result
 overflow_shl-result c = has_below 32 _ _ c.ranges.set.fits (sym c.has.ensures ∙ c.if-has.true)
 
 pub overflow_sub-result : goal.overflow_sub-result
-overflow_sub-result c = rw (one_shifted _ (shl-result c)) (digit_le _ _ (sym c.has.ensures ∙ c.if-has.true))
+overflow_sub-result c = rw (one_shifted _ (overflow_shl-result c)) (digit_le _ _ (sym c.has.ensures ∙ c.if-has.true))
 
 pub returns-then-has : goal.returns-then-has
-returns-then-has c = rw (one_shifted _ (shl-result c), ← c.has.ensures, c.if-has.true)
+returns-then-has c = rw (one_shifted _ (overflow_shl-result c), ← c.has.ensures, c.if-has.true)
 
 pub returns-else-has : goal.returns-else-has
 returns-else-has c = rw (← c.has.ensures, c.if-has.false)
