@@ -5,13 +5,9 @@ use mathlib.Core.Bool.{Bool, ◌&&◌}
 use lib.Dec.{eqb}
 use borrow.Author.Rules.{rules}
 use Rattle.object.proofs.Signed.{zero_bits}
-use Rattle.object_phases.proofs.both_zero.Statement.{statement}
-use Rattle.object_phases.proofs.both_zero.Tie as tie
+use Rattle.object_phases.proofs.both_zero.Goals as goal
 
-returns : tie.Need-returns
+pub returns : goal.returns
 returns c =
-    let o = c.before.before.before.args.o in
+    let o = c.args.o in
     ap (λ (zero : Bool). eqb o.pending 0 && zero) (zero_bits o.tx (search rules))
-
-pub both-zero-spec : {M : Type 1} → statement M
-both-zero-spec = tie.close (tie.spec returns)

@@ -1,0 +1,5 @@
+use borrow.Author.Rules.{rules}
+use Rattle.block.proofs.is_fresh.Goals as goal
+
+pub returns : goal.returns
+returns c = cc

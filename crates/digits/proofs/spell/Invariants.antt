@@ -1,0 +1,21 @@
+-- `digits::spell` meets its contract: where the digits fit, they are stored one by one from the last on, and else nothing is.
+-- The invariant: what is left to store, stored, gives what all of it gives.
+-- Assumes nothing.
+use mathlib.Core.Path.{◌≡◌, refl, subst, ◌∙◌}
+use Prim.Native.Nat.{ℕ, ◌+◌, ◌≤◌}
+use native.Mathlib.Omega.{arith}
+use native.Mathlib.Nat.{mod-lt}
+use borrow.Author.Rules.{rules}
+use lib.ListN.{length, length-set}
+use lib.Seq.{sets}
+use Rattle.fields.proofs.Num.{laid_fits, laid_short}
+use Rattle.io.specs.Digits.{last_digits}
+use Rattle.digits.proofs.Digits.{length_digits, digit_stored}
+use Rattle.digits.proofs.spell.Given as goal
+
+abbrev pub invariant-loop-i : goal.invariant-loop-i
+invariant-loop-i l =
+    (l.i ≤ l.k) × (length l.out ≡ length l.initial.out) × (l.at + l.k ≤ length l.initial.out) × (sets l.out l.at (last_digits l.base l.i l.rest) ≡ sets l.initial.out l.at (last_digits l.base l.k l.n))
+
+abbrev pub decreases-loop-i : goal.decreases-loop-i
+decreases-loop-i l = l.i
