@@ -17,20 +17,20 @@ returns-then-bad_arrival c =
 pub returns-in_default : goal.returns-in_default
 returns-in_default c =
     line_15 _ _ _ c.if-not-o.false refl (sym c.bad_arrival.ensures ∙ c.if-bad_arrival.false)
-    (went_out c.args.o (c.args.o.tx +ℤ pos c.args.expects) _ c.raised.ensures c.enum_told-1.given.1)
+    (went_out c.args.o (c.args.o.tx +ℤ pos c.args.expects) _ c.raised.ensures c.in_default.is)
 
 pub returns-then-not-o-2 : goal.returns-then-not-o-2
 returns-then-not-o-2 c =
     line_16 _ _ _ c.if-not-o.false refl (sym c.bad_arrival.ensures ∙ c.if-bad_arrival.false)
-    (stayed_in c.args.o (c.args.o.tx +ℤ pos c.args.expects) _ c.raised.ensures _ c.row-1.given.1).0 c.if-not-o-2.true
+    (stayed_in c.args.o (c.args.o.tx +ℤ pos c.args.expects) _ c.raised.ensures _ c.in-To.is).0 c.if-not-o-2.true
 
 pub arrives-next-requires : goal.arrives-next-requires
 arrives-next-requires c =
-    let k = stayed_in c.args.o (c.args.o.tx +ℤ pos c.args.expects) _ c.raised.ensures _ c.row-1.given.1 in
+    let k = stayed_in c.args.o (c.args.o.tx +ℤ pos c.args.expects) _ c.raised.ensures _ c.in-To.is in
     rw k.1 (sym c.bad_arrival.ensures ∙ c.if-bad_arrival.false)
 
 pub returns : goal.returns
 returns c =
-    let k = stayed_in c.args.o (c.args.o.tx +ℤ pos c.args.expects) _ c.raised.ensures _ c.row-1.given.1 in
+    let k = stayed_in c.args.o (c.args.o.tx +ℤ pos c.args.expects) _ c.raised.ensures _ c.in-To.is in
     settles _ _ _ c.if-not-o.false refl (sym c.bad_arrival.ensures ∙ c.if-bad_arrival.false) k.0 c.if-not-o-2.false refl refl refl _
     (rw (c.arrives-next.ensures, c.token.ensures, k.1) at c.settle.ensures)

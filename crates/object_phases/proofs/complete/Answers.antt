@@ -12,9 +12,9 @@ returns-then-not-o c = line_12 _ _ _ c.if-not-o.true
 
 pub returns-in_default : goal.returns-in_default
 returns-in_default c =
-    line_15 _ _ _ c.if-not-o.false refl refl (went_out c.args.o (c.args.o.tx -ℤ pos c.args.x) _ c.lowered.ensures c.enum_told-1.given.1)
+    line_15 _ _ _ c.if-not-o.false refl refl (went_out c.args.o (c.args.o.tx -ℤ pos c.args.x) _ c.lowered.ensures c.in_default.is)
 
 pub returns : goal.returns
 returns c =
-    let k = stayed_in c.args.o (c.args.o.tx -ℤ pos c.args.x) _ c.lowered.ensures _ c.row-1.given.1 in
+    let k = stayed_in c.args.o (c.args.o.tx -ℤ pos c.args.x) _ c.lowered.ensures _ c.in-To.is in
     settles _ _ _ c.if-not-o.false refl refl k.0 refl refl refl refl _ (rw k.1 at c.settle.ensures)

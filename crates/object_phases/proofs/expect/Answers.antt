@@ -12,9 +12,9 @@ returns-then-not-o c = line_12 _ _ _ c.if-not-o.true
 
 pub returns-in_default : goal.returns-in_default
 returns-in_default c =
-    line_15 _ _ _ c.if-not-o.false refl refl (went_out c.args.o (c.args.o.tx +ℤ pos c.args.x) _ c.raised.ensures c.enum_told-1.given.1)
+    line_15 _ _ _ c.if-not-o.false refl refl (went_out c.args.o (c.args.o.tx +ℤ pos c.args.x) _ c.raised.ensures c.in_default.is)
 
 pub returns : goal.returns
 returns c =
-    let k = stayed_in c.args.o (c.args.o.tx +ℤ pos c.args.x) _ c.raised.ensures _ c.row-1.given.1 in
+    let k = stayed_in c.args.o (c.args.o.tx +ℤ pos c.args.x) _ c.raised.ensures _ c.in-To.is in
     rw k.1 (no_line _ _ _ c.if-not-o.false refl refl k.0 refl refl refl refl refl)

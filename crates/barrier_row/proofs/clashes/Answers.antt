@@ -1,0 +1,5 @@
+use borrow.Author.Rules.{rules}
+use Rattle.barrier_row.proofs.clashes.Goals as goal
+
+pub returns : goal.returns
+returns c = cc
