@@ -1,0 +1,16 @@
+use mathlib.Core.Path.{◌≡◌, sym, ◌∙◌}
+use mathlib.Core.Bool.{true}
+use Prim.Native.Nat.{◌≤◌, ◌-◌}
+use native.Mathlib.Omega.{arith}
+use borrow.Author.Rules.{rules}
+use borrow.Author.Tests.{not-true, not-false}
+use Rattle.folds.specs.Folds.{all}
+use Rattle.folds.proofs.Folds.{all_none, all_more, all_fails, all_end}
+use Rattle.block.specs.Tables.{barrier_at, row_sound}
+use Rattle.block_sound.proofs.rows_sound.Given as goal
+
+abbrev pub invariant-loop-k : goal.invariant-loop-k
+invariant-loop-k l = (l.k ≤ 16) × (all l.k (λ j. row_sound l.n l.alive (barrier_at l.b j)) ≡ true)
+
+abbrev pub decreases-loop-k : goal.decreases-loop-k
+decreases-loop-k l = 16 - l.k

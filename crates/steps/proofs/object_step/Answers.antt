@@ -1,0 +1,38 @@
+-- `steps::object_step` meets its contract, kind by kind.
+-- Assumes nothing.
+use mathlib.Core.Path.{◌∙◌}
+use mathlib.Core.List.{[], ◌∷◌}
+use Prim.Native.Nat.{◌+◌}
+use native.Mathlib.Omega.{arith}
+use borrow.Author.Rules.{rules}
+use lib.Dec.{lit<}
+use lib.ListN.{drop}
+use Rattle.steps.proofs.Fields.{has_field, number_width, of_kind, one_more_lem}
+use Rattle.steps.proofs.object_step.Goals as goal
+
+pub counted-requires : goal.counted-requires
+counted-requires c =
+    let k = c.args.kind in
+    let e = c.requires in
+    number_width k (has_field k 1 (omega (arith, e))) e c.in_default.rest
+
+pub returns-in-8 : goal.returns-in-8
+returns-in-8 c = λ w x. rw c.in-8.is
+
+pub returns-in-16 : goal.returns-in-16
+returns-in-16 c =
+    let a = c.args in
+    λ w x. rw c.eight.ensures (of_kind (w ∷ x ∷ []) (drop a.at a.s.now) c.in-16.is)
+
+pub returns-in-17 : goal.returns-in-17
+returns-in-17 c =
+    let a = c.args in
+    λ w x. rw c.one.ensures (of_kind (w ∷ x ∷ []) (drop a.at a.s.now) c.in-17.is)
+
+pub returns-in_default : goal.returns-in_default
+returns-in_default c =
+    let a = c.args in
+    let n = c.four.result in
+    λ w x.
+    c.counted.ensures w x (drop (a.at + 4) a.s.now)
+    ∙ one_more_lem a.kind (w ∷ x ∷ []) a.s.now a.at 4 n (counted-requires c tt) (lit< tt) c.four.ensures

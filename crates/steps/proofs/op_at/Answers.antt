@@ -1,0 +1,43 @@
+-- `steps::op_at` meets its contract: the first field is read, and what is behind it by the kind.
+-- Assumes nothing.
+use mathlib.Core.Path.{◌∙◌}
+use mathlib.Core.List.{[], ◌∷◌}
+use native.Mathlib.Omega.{arith}
+use borrow.Author.Rules.{rules}
+use lib.Dec.{lit<}
+use lib.ListN.{drop}
+use Rattle.steps.proofs.Each.{known}
+use Rattle.steps.proofs.Fields.{barrier_width, address_width, of_kind, one_more_lem}
+use Rattle.steps.proofs.op_at.Goals as goal
+
+pub returns-then-kind-eq-EXIT : goal.returns-then-kind-eq-EXIT
+returns-then-kind-eq-EXIT c = λ w. rw c.if-kind-eq-EXIT.true
+
+pub barrier_step-requires : goal.barrier_step-requires
+barrier_step-requires c =
+    (barrier_width c.args.kind (omega (arith, c.if-kind-le-RED.true)) c.requires.0 c.if-kind-eq-EXIT.false, omega arith)
+
+pub returns-then-kind-le-RED : goal.returns-then-kind-le-RED
+returns-then-kind-le-RED c =
+    let a = c.args in
+    let x = c.one.result in
+    λ w.
+    c.barrier_step.ensures w x
+    ∙ one_more_lem a.kind (w ∷ []) a.s.now a.at 1 x (barrier_step-requires c c.lifetimes).0 (lit< tt) c.one.ensures
+
+pub returns-then-kind-eq-PENDING_COUNT : goal.returns-then-kind-eq-PENDING_COUNT
+returns-then-kind-eq-PENDING_COUNT c =
+    let a = c.args in
+    λ w. rw c.eight.ensures (of_kind (w ∷ []) (drop a.at a.s.now) c.if-kind-eq-PENDING_COUNT.true)
+
+pub object_step-requires : goal.object_step-requires
+object_step-requires c =
+    address_width c.args.kind (known c.args.kind c.requires.0) c.if-kind-le-RED.false c.if-kind-eq-PENDING_COUNT.false
+
+pub returns : goal.returns
+returns c =
+    let a = c.args in
+    let x = c.two.result in
+    λ w.
+    c.object_step.ensures w x
+    ∙ one_more_lem a.kind (w ∷ []) a.s.now a.at 2 x (object_step-requires c c.lifetimes) (lit< tt) c.two.ensures
