@@ -6,8 +6,8 @@
 use mathlib.Core.Path.{◌≡◌, sym, ◌∙◌, ap, subst}
 use mathlib.Core.List.{List, [], ◌∷◌}
 use seplogic.Ra.Ura.{Ura}
-use seplogic.Ra.TreeShare.{full_share}
-use mir.Syntax.{Name, Place, Opd as Operand, Body, seq, call}
+use base.Fraction.{full_share}
+use mir.Syntax.{Callee, Place, Opd as Operand, Body, seq, call}
 use mir.Val.{Val}
 use base.Logic.{ent, sep, emp, ex, id⊢}
 use base.Fml.{Lft, GName, Fml, ftrue, fsep, flft}
@@ -34,7 +34,7 @@ pub record Loan2 {M : Type 1} {𝓤 : Ura M} (𝓛 : Logic 𝓤) (s : Slot 2) (P
   pub arg : (κ κ' : Lft) → GName → (s.row (κ, (κ', tt))).Denot
   pub val : Val
   pub Keep : Lft → Lft → GName → Fml
-  pub lend : (κ κ' : Lft) → ent 𝓤 (sem 𝓛 P) (𝓛.H.⇛ (ex 𝓤 (λ (δ : GName). sep 𝓤 (sem 𝓛 ((s.row (κ, (κ', tt))).own (arg κ κ' δ) (val ∷ []))) (sem 𝓛 (Keep κ κ' δ)))))
+  pub lend : (κ κ' : Lft) → ent 𝓤 (sem 𝓛 P) (𝓛.H.⇛ (ex 𝓤 (λ (δ : GName). sep 𝓤 (sem 𝓛 ((s.row (κ, (κ', tt))).own_val (arg κ κ' δ) (val ∷ []))) (sem 𝓛 (Keep κ κ' δ)))))
 
 -- what comes back of it once the lifetime α, one of the two, is dead, at the last value w: P'
 abbrev pub Back2 : {M : Type 1} {𝓤 : Ura M} (𝓛 : Logic 𝓤) (s : Slot 2) (P : Fml) (L : Loan2 𝓛 s P) (k : Kept) (α κ κ' : Lft) (δ : GName) → Last ((s.row (κ, (κ', tt))).exit k) (L.arg κ κ' δ) → Fml → Type 1
@@ -46,7 +46,7 @@ Lending2 s s' ps Q k k' ks = record { signature = record { lifetimes = 2; outliv
 abbrev pub Lends2 : {M : Type 1} {𝓤 : Ura M} (𝓛 : Logic 𝓤) (s s' : Slot 2) (ps : List (Slot 2)) (Q : RattleType) (k k' : Kept) (ks : Kepts ps) → Clauses 𝓤 (Lending2 s s' ps Q k k' ks) → Contract 𝓤
 Lends2 𝓛 s s' ps Q k k' ks c = triple_of 𝓛 (Lending2 s s' ps Q k k' ks).signature (closing 𝓛 (Lending2 s s' ps Q k k' ks) c)
 
-module _ {M : Type 1} {𝓤 : Ura M} {𝓛 : Logic 𝓤} {K : Type 0} {Γ : List (Item 𝓤)} {E : Env 𝓤 𝓛.H} {C : Calls 𝓤 𝓛.H} {Λ : Loops 𝓤 𝓛.H} {q : Post 𝓤 𝓛.H} {f : Name} {xs : List Operand} {d : Place} {rest : Body} where
+module _ {M : Type 1} {𝓤 : Ura M} {𝓛 : Logic 𝓤} {K : Type 0} {Γ : List (Item 𝓤)} {E : Env 𝓤 𝓛.H} {C : Calls 𝓤 𝓛.H} {Λ : Loops 𝓤 𝓛.H} {q : Post 𝓤 𝓛.H} {f : Callee} {xs : List Operand} {d : Place} {rest : Body} where
   open 𝓛 use {H, A}
 
   pub calls_lending2 : K → FmC 𝓤 H 𝓛.laws C → (s s' : Slot 2) (ps : List (Slot 2)) (Q : RattleType) (k k' : Kept) (ks : Kepts ps) (c : Clauses 𝓤 (Lending2 s s' ps Q k k' ks)) → Triple 𝓤 (C f) (Lends2 𝓛 s s' ps Q k k' ks c)
@@ -64,12 +64,12 @@ module _ {M : Type 1} {𝓤 : Ura M} {𝓛 : Logic 𝓤} {K : Type 0} {Γ : List
   calls_lending2 t fm s s' ps Q k k' ks c known mk val tl {P} {P'} Z Z' L L' a vss are g req z Said ens means os cont =
       -- [the second token; the first; P; P']
       lft_new t tt (λ ν. lft_new t tt (λ ν'. move t (2 ∷ []) $
-      use1 𝓛 (later (some (λ (δ : GName). ‵ ((s.row (ν ∷ [], (ν' ∷ [], tt))).own (L.arg (ν ∷ []) (ν' ∷ []) δ) (L.val ∷ [])) ⊛ ‵ (L.Keep (ν ∷ []) (ν' ∷ []) δ)))) (L.lend (ν ∷ []) (ν' ∷ [])) $ await t tt $ pick t (λ δ. split t $ move t (4 ∷ []) $
-      use1 𝓛 (later (some (λ (δ' : GName). ‵ ((s'.row (ν ∷ [], (ν' ∷ [], tt))).own (L'.arg (ν ∷ []) (ν' ∷ []) δ') (L'.val ∷ [])) ⊛ ‵ (L'.Keep (ν ∷ []) (ν' ∷ []) δ')))) (L'.lend (ν ∷ []) (ν' ∷ [])) $ await t tt $ pick t (λ δ'. split t $
+      use1 𝓛 (later (some (λ (δ : GName). ‵ ((s.row (ν ∷ [], (ν' ∷ [], tt))).own_val (L.arg (ν ∷ []) (ν' ∷ []) δ) (L.val ∷ [])) ⊛ ‵ (L.Keep (ν ∷ []) (ν' ∷ []) δ)))) (L.lend (ν ∷ []) (ν' ∷ [])) $ await t tt $ pick t (λ δ. split t $ move t (4 ∷ []) $
+      use1 𝓛 (later (some (λ (δ' : GName). ‵ ((s'.row (ν ∷ [], (ν' ∷ [], tt))).own_val (L'.arg (ν ∷ []) (ν' ∷ []) δ') (L'.val ∷ [])) ⊛ ‵ (L'.Keep (ν ∷ []) (ν' ∷ []) δ')))) (L'.lend (ν ∷ []) (ν' ∷ [])) $ await t tt $ pick t (λ δ'. split t $
       -- [the second reference; what is kept of it; the first; what is kept of it; the second token; the first]
       move t (2 ∷ 0 ∷ []) $ fjoin t $ move t (4 ∷ 3 ∷ 0 ∷ []) $ use3 𝓛 (raw ((Lends2 𝓛 s s' ps Q k k' ks c).pre (outside (ν ∷ []) (ν' ∷ []) δ δ'))) (goes (ν ∷ []) (ν' ∷ []) δ δ') $
       calls_at t fm (Lends2 𝓛 s s' ps Q k k' ks c) known (outside (ν ∷ []) (ν' ∷ []) δ δ') (os (ν ∷ []) (ν' ∷ []) δ δ') (λ v.
-      use1 𝓛 (later (some (λ (r : Q.Denot). ((‵ (flft (ν ∷ []) full_share) ⊛ ‵ (flft (ν' ∷ []) full_share) ⊛ ‵ ftrue) ⊛ ‵ (Q.own r (v ∷ [])))
+      use1 𝓛 (later (some (λ (r : Q.Denot). ((‵ (flft (ν ∷ []) full_share) ⊛ ‵ (flft (ν' ∷ []) full_share) ⊛ ‵ ftrue) ⊛ ‵ (Q.own_val r (v ∷ [])))
       ⊛ some (λ (ws : Lasts (Lending2 s s' ps Q k k' ks) (ν ∷ [], (ν' ∷ [], tt)) (params (ν ∷ []) (ν' ∷ []) δ δ')). ‵ (lasts (Lending2 s s' ps Q k k' ks) (ν ∷ [], (ν' ∷ [], tt)) (params (ν ∷ []) (ν' ∷ []) δ δ') ws)
       ⊛ raw ((c (ν ∷ [], (ν' ∷ [], tt)) (params (ν ∷ []) (ν' ∷ []) δ δ')).ensures (g (ν ∷ []) (ν' ∷ []) δ δ') r (at_exit (Lending2 s s' ps Q k k' ks) (ν ∷ [], (ν' ∷ [], tt)) (params (ν ∷ []) (ν' ∷ []) δ δ') ws)))))) (id⊢ 𝓤 _) $ await t tt $ pick t (λ r.
       split t $ move t (1 ∷ []) $ pick t (λ ws. split t $ move t (1 ∷ []) $ use1 𝓛 (raw (fact 𝓤 (Said (ν ∷ []) (ν' ∷ []) δ δ' r ws.0 ws.1.0))) (ens (ν ∷ []) (ν' ∷ []) δ δ' r ws) $ heard t (Said (ν ∷ []) (ν' ∷ []) δ δ' r ws.0 ws.1.0) (λ e.
@@ -86,8 +86,8 @@ module _ {M : Type 1} {𝓤 : Ura M} {𝓛 : Logic 𝓤} {K : Type 0} {Γ : List
       outside : (κ κ' : Lft) (δ δ' : GName) → (Lends2 𝓛 s s' ps Q k k' ks c).Ghost
       outside κ κ' δ δ' = (((κ, (κ', tt)), (full_share, (full_share, tt)), tt, (L.arg κ κ' δ, (L'.arg κ κ' δ', a κ κ')), (L.val ∷ [], (L'.val ∷ [], vss κ κ'))), g κ κ' δ δ')
 
-      goes : (κ κ' : Lft) (δ δ' : GName) → ent 𝓤 (sep 𝓤 (A.lft κ full_share) (sep 𝓤 (A.lft κ' full_share) (sem 𝓛 (fsep ((s.row (κ, (κ', tt))).own (L.arg κ κ' δ) (L.val ∷ [])) ((s'.row (κ, (κ', tt))).own (L'.arg κ κ' δ') (L'.val ∷ [])))))) ((Lends2 𝓛 s s' ps Q k k' ks c).pre (outside κ κ' δ δ'))
-      goes κ κ' δ δ' = qed 𝓛 (‵ (flft κ full_share) ∷ ‵ (flft κ' full_share) ∷ ‵ (fsep ((s.row (κ, (κ', tt))).own (L.arg κ κ' δ) (L.val ∷ [])) ((s'.row (κ, (κ', tt))).own (L'.arg κ κ' δ') (L'.val ∷ []))) ∷ []) ∵
+      goes : (κ κ' : Lft) (δ δ' : GName) → ent 𝓤 (sep 𝓤 (A.lft κ full_share) (sep 𝓤 (A.lft κ' full_share) (sem 𝓛 (fsep ((s.row (κ, (κ', tt))).own_val (L.arg κ κ' δ) (L.val ∷ [])) ((s'.row (κ, (κ', tt))).own_val (L'.arg κ κ' δ') (L'.val ∷ [])))))) ((Lends2 𝓛 s s' ps Q k k' ks c).pre (outside κ κ' δ δ'))
+      goes κ κ' δ δ' = qed 𝓛 (‵ (flft κ full_share) ∷ ‵ (flft κ' full_share) ∷ ‵ (fsep ((s.row (κ, (κ', tt))).own_val (L.arg κ κ' δ) (L.val ∷ [])) ((s'.row (κ, (κ', tt))).own_val (L'.arg κ κ' δ') (L'.val ∷ []))) ∷ []) ∵
           use0 𝓛 (raw ((c (κ, (κ', tt)) (params κ κ' δ δ')).requires (g κ κ' δ δ'))) (req κ κ' δ δ') $
           use0 𝓛 (‵ (owns (types_at ps (κ, (κ', tt))) (a κ κ') (vss κ κ'))) (owns_make 𝓛 (types_at ps (κ, (κ', tt))) (Ises (types_at ps (κ, (κ', tt)))) (mk κ κ') (a κ κ') (vss κ κ') (are κ κ')) $
           -- [the others; the requires; the tokens; the references]

@@ -8,8 +8,8 @@ use Prim.Native.Nat.{ℕ}
 use mathlib.Core.List.{List, [], ◌∷◌}
 use lib.ListN.{length}
 use seplogic.Ra.Ura.{Ura}
-use seplogic.Ra.TreeShare.{full_share}
-use mir.Syntax.{Name, Place, Opd as Operand, Body, seq, call, named}
+use base.Fraction.{full_share}
+use mir.Syntax.{Callee, Place, Opd as Operand, Body, seq, call, named}
 use mir.Val.{Val, vptr}
 use base.Logic.{ent, emp, id⊢}
 use base.Fml.{Lft, GName, ftrue, flft, flent}
@@ -52,7 +52,7 @@ abbrev pub lent3 : (R S T : RattleType) (ps : List (Slot 3)) (b o : ℕ) (d : R.
     → Denots (types_at (mut_ref_to (0 ∷ []) tt (plain (λ _. R)) ∷ mut_slice_of (1 ∷ []) tt (plain (λ _. S)) ∷ mut_ref_to (2 ∷ []) tt (plain (λ _. T)) ∷ ps) (κ, (κ', (κ'', tt))))
 lent3 R S T ps b o d b' o' ys b'' o'' h κ κ' κ'' a δ δ' δ'' = (record { ref_ptr = (b, o); ghost_name = δ; now = d }, (record { ref_ptr = (b', o'); ghost_name = δ'; now = ys }, (record { ref_ptr = (b'', o''); ghost_name = δ''; now = h }, a)))
 
-module _ {M : Type 1} {𝓤 : Ura M} {𝓛 : Logic 𝓤} {K : Type 0} {Γ : List (Item 𝓤)} {E : Env 𝓤 𝓛.H} {C : Calls 𝓤 𝓛.H} {Λ : Loops 𝓤 𝓛.H} {q : Post 𝓤 𝓛.H} {f : Name} {xs : List Operand} {p : Place} {rest : Body} where
+module _ {M : Type 1} {𝓤 : Ura M} {𝓛 : Logic 𝓤} {K : Type 0} {Γ : List (Item 𝓤)} {E : Env 𝓤 𝓛.H} {C : Calls 𝓤 𝓛.H} {Λ : Loops 𝓤 𝓛.H} {q : Post 𝓤 𝓛.H} {f : Callee} {xs : List Operand} {p : Place} {rest : Body} where
   open 𝓛 use {H}
 
   pub calls_lending3 : K → FmC 𝓤 H 𝓛.laws C → (R S T : RattleType) (ps : List (Slot 3)) (Q : RattleType) (ks : Kepts ps) (c : Clauses 𝓤 (Lending3 R S T ps Q ks)) → Triple 𝓤 (C f) (Lends3 𝓛 R S T ps Q ks c)
@@ -81,7 +81,7 @@ module _ {M : Type 1} {𝓤 : Ura M} {𝓛 : Logic 𝓤} {K : Type 0} {Γ : List
       use0 𝓛 (raw ((c ((ν ∷ []), ((ν' ∷ []), ((ν'' ∷ []), tt))) (args (ν ∷ []) (ν' ∷ []) (ν'' ∷ []) δ δ' δ'')).requires (g (ν ∷ []) (ν' ∷ []) (ν'' ∷ []) δ δ' δ''))) (req (ν ∷ []) (ν' ∷ []) (ν'' ∷ []) δ δ' δ'') $ move t (1 ∷ 0 ∷ []) $ join t $
       use1 𝓛 (raw ((Lends3 𝓛 R S T ps Q ks c).pre (outside (ν ∷ []) (ν' ∷ []) (ν'' ∷ []) δ δ' δ''))) (id⊢ 𝓤 _) $
       calls_at t fm (Lends3 𝓛 R S T ps Q ks c) known (outside (ν ∷ []) (ν' ∷ []) (ν'' ∷ []) δ δ' δ'') (os (ν ∷ []) (ν' ∷ []) (ν'' ∷ []) _ _ _ _) (λ v.
-      use1 𝓛 (later (some (λ (r : Q.Denot). ((‵ (flft (ν ∷ []) full_share) ⊛ ‵ (flft (ν' ∷ []) full_share) ⊛ ‵ (flft (ν'' ∷ []) full_share) ⊛ ‵ ftrue) ⊛ ‵ (Q.own r (v ∷ []))) ⊛ some (λ (ws : Lasts (Lending3 R S T ps Q ks) ((ν ∷ []), ((ν' ∷ []), ((ν'' ∷ []), tt))) (args (ν ∷ []) (ν' ∷ []) (ν'' ∷ []) δ δ' δ'')).
+      use1 𝓛 (later (some (λ (r : Q.Denot). ((‵ (flft (ν ∷ []) full_share) ⊛ ‵ (flft (ν' ∷ []) full_share) ⊛ ‵ (flft (ν'' ∷ []) full_share) ⊛ ‵ ftrue) ⊛ ‵ (Q.own_val r (v ∷ []))) ⊛ some (λ (ws : Lasts (Lending3 R S T ps Q ks) ((ν ∷ []), ((ν' ∷ []), ((ν'' ∷ []), tt))) (args (ν ∷ []) (ν' ∷ []) (ν'' ∷ []) δ δ' δ'')).
       ‵ (lasts (Lending3 R S T ps Q ks) ((ν ∷ []), ((ν' ∷ []), ((ν'' ∷ []), tt))) (args (ν ∷ []) (ν' ∷ []) (ν'' ∷ []) δ δ' δ'') ws)
       ⊛ raw ((c ((ν ∷ []), ((ν' ∷ []), ((ν'' ∷ []), tt))) (args (ν ∷ []) (ν' ∷ []) (ν'' ∷ []) δ δ' δ'')).ensures (g (ν ∷ []) (ν' ∷ []) (ν'' ∷ []) δ δ' δ'') r (at_exit (Lending3 R S T ps Q ks) ((ν ∷ []), ((ν' ∷ []), ((ν'' ∷ []), tt))) (args (ν ∷ []) (ν' ∷ []) (ν'' ∷ []) δ δ' δ'') ws)))))) (id⊢ 𝓤 _) $ await t tt $ pick t (λ r. split t $ move t (1 ∷ []) $ pick t (λ ws. split t $ move t (1 ∷ []) $
       use1 𝓛 (raw (fact 𝓤 (Said r ws.0 ws.1.0 ws.1.1.0))) (ens (ν ∷ []) (ν' ∷ []) (ν'' ∷ []) δ δ' δ'' r ws) $ heard t (Said r ws.0 ws.1.0 ws.1.1.0) (λ e.
@@ -90,7 +90,7 @@ module _ {M : Type 1} {𝓤 : Ura M} {𝓛 : Logic 𝓤} {K : Type 0} {Γ : List
       split t $ lft_end t tt $ move t (1 ∷ []) $ split t $ lft_end t tt $ move t (1 ∷ []) $ split t $ lft_end t tt $
       move t (0 ∷ 8 ∷ 4 ∷ []) $ use3 𝓛 (later (‵ (part_at T full_share ws.1.1.0 b'' o''))) (record_lent_back 𝓛 T b'' o'' h (ν'' ∷ []) δ'' ws.1.1.0) $ await t tt $
       move t (3 ∷ 6 ∷ 5 ∷ []) $ use3 𝓛 (later (‵ (part_at R full_share ws.0 b o))) (record_lent_back 𝓛 R b o d (ν ∷ []) δ ws.0) $ await t tt $
-      move t (4 ∷ []) $ fsplit t $ move t (1 ∷ []) $ feq_l t (λ lw. feq_i t ℕ (length ws.1.0) (length ys) lw $ move t (1 ∷ 0 ∷ []) $ fjoin t $ move t (4 ∷ 5 ∷ 0 ∷ []) $ use3 𝓛 (later (‵ (row S full_share ws.1.0 b' o'))) (rows_lent_back 𝓛 S b' o' ys room (ν' ∷ []) δ' ws.1.0) $ await t tt $
+      move t (4 ∷ []) $ fsplit t $ fsplit t $ move t (1 ∷ []) $ feq_l t (λ lw. feq_i t ℕ (length ws.1.0) (length ys) lw $ move t (1 ∷ 0 ∷ []) $ fjoin t $ fjoin t $ move t (4 ∷ 5 ∷ 0 ∷ []) $ use3 𝓛 (later (‵ (row S full_share ws.1.0 b' o'))) (rows_lent_back 𝓛 S b' o' ys room (ν' ∷ []) δ' ws.1.0) $ await t tt $
       move t (3 ∷ []) $ drop t $ move t (1 ∷ []) $ there r v ws.0 ws.1.0 ws.1.1.0 lw e is))))))))))))
     where
       At : Lft → Lft → Lft → List RattleType

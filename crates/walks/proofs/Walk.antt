@@ -12,9 +12,9 @@ use Prim.Native.Nat.{ℕ}
 use mathlib.Core.List.{List, [], ◌∷◌}
 use seplogic.Ra.Ura.{Ura}
 use mathlib.Core.Bool.{Bool, true, false, not}
-use seplogic.Ra.TreeShare.{full_share}
+use base.Fraction.{full_share}
 use lib.Dec.{T}
-use mir.Syntax.{Ty, Fn, Name, Place, Opd as Operand, Body, seq, call, cond, skip}
+use mir.Syntax.{Ty, Fn, Callee, Place, Opd as Operand, Body, seq, call, cond, skip}
 use mir.Val.{Val, vbool}
 use base.Logic.{ent, emp, ex_e, id⊢, via, snd∗}
 use base.Fml.{ftrue, fat, fdies}
@@ -56,7 +56,7 @@ ByValue ps R ks = record { signature = record { lifetimes = 0; outlives = []; pa
 abbrev pub Valued : {M : Type 1} {𝓤 : Ura M} (𝓛 : Logic 𝓤) (ps : List (Slot 0)) (R : RattleType) (ks : Kepts ps) → Clauses 𝓤 (ByValue ps R ks) → Contract 𝓤
 Valued 𝓛 ps R ks c = triple_of 𝓛 (ByValue ps R ks).signature (closing 𝓛 (ByValue ps R ks) c)
 
-module _ {M : Type 1} {𝓤 : Ura M} {𝓛 : Logic 𝓤} {K : Type 0} {Γ : List (Item 𝓤)} {E : Env 𝓤 𝓛.H} {C : Calls 𝓤 𝓛.H} {Λ : Loops 𝓤 𝓛.H} {q : Post 𝓤 𝓛.H} {f : Name} {xs : List Operand} {d : Place} {rest : Body} where
+module _ {M : Type 1} {𝓤 : Ura M} {𝓛 : Logic 𝓤} {K : Type 0} {Γ : List (Item 𝓤)} {E : Env 𝓤 𝓛.H} {C : Calls 𝓤 𝓛.H} {Λ : Loops 𝓤 𝓛.H} {q : Post 𝓤 𝓛.H} {f : Callee} {xs : List Operand} {d : Place} {rest : Body} where
   open 𝓛 use {H}
 
   pub calls_saying : K → FmC 𝓤 H 𝓛.laws C → (ps : List (Slot 0)) (R : RattleType) (ks : Kepts ps) (c : Clauses 𝓤 (ByValue ps R ks)) → Triple 𝓤 (C f) (Valued 𝓛 ps R ks c) → Makess 𝓛 (types_at ps tt) (Ises (types_at ps tt)) → (val : R.Denot → Val) → Tells R (Is R) (λ r. val r ∷ [])
@@ -67,7 +67,7 @@ module _ {M : Type 1} {𝓤 : Ura M} {𝓛 : Logic 𝓤} {K : Type 0} {Γ : List
   calls_saying t fm ps R ks c known mk val tl a vss are g req Said ens os k =
       use0 𝓛 (raw ((Valued 𝓛 ps R ks c).pre ((tt, tt, tt, a, vss), g))) pre $
       calls_at t fm (Valued 𝓛 ps R ks c) known ((tt, tt, tt, a, vss), g) os (λ v.
-      use1 𝓛 (later (some (λ (r : R.Denot). (‵ ftrue ⊛ ‵ (R.own r (v ∷ []))) ⊛ raw (ensured 𝓛 (ByValue ps R ks) c tt a g r)))) (id⊢ 𝓤 _) $ await t tt $ pick t (λ r.
+      use1 𝓛 (later (some (λ (r : R.Denot). (‵ ftrue ⊛ ‵ (R.own_val r (v ∷ []))) ⊛ raw (ensured 𝓛 (ByValue ps R ks) c tt a g r)))) (id⊢ 𝓤 _) $ await t tt $ pick t (λ r.
       split t $ move t (1 ∷ []) $ use1 𝓛 (raw (fact 𝓤 (Said r))) (said r) $ heard t (Said r) (λ e. split t $ drop t $ peeks t R (Is R) (shows 𝓛 R) r (v ∷ []) (λ is. drop t $
       there r v e is))))
     where
@@ -107,7 +107,7 @@ module _ {M : Type 1} {𝓤 : Ura M} (𝓛 : Logic 𝓤) (𝓜 : Model 𝓤 𝓛
   abbrev pub over : Tables 𝓤 H
   over = tables_of 𝓤 H 𝓜 (tables 𝓤 H 𝓜 𝓡 env)
 
-  pub concluded : (T : Ended) (hs : Stays T.signature.params T.kept) → AllGo 𝓛 T.signature.lifetimes T.signature.params T.kept hs → (c : Clauses 𝓤 T) (k : Name) (f : Fn) → Closed 𝓤 H (tables 𝓤 H 𝓜 𝓡 env).C (tables 𝓤 H 𝓜 𝓡 env).Λ k f
+  pub concluded : (T : Ended) (hs : Stays T.signature.params T.kept) → AllGo 𝓛 T.signature.lifetimes T.signature.params T.kept hs → (c : Clauses 𝓤 T) (k : Callee) (f : Fn) → Closed 𝓤 H (tables 𝓤 H 𝓜 𝓡 env).C (tables 𝓤 H 𝓜 𝓡 env).Λ k f
       → Walks 𝓛 T hs (WpFn 𝓤 H over.C over.Λ f) c → Triple 𝓤 ((tables 𝓤 H 𝓜 𝓡 env).C k) (triple_of 𝓛 T.signature (closing 𝓛 T c))
   unfolding tables_of
   concluded T hs go c k f closed w =
