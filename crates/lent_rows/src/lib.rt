@@ -9,7 +9,7 @@ use block::{Barrier, Status, Warp};
 
 // A warp's row with another status.
 fn with_status(row: Warp, s: Status) -> Warp
-    ensures* { λ r. ⌜ r ≡ record { status = s; result = row.result } ⌝ }
+    ensures { result ≡ record { status = s; result = row.result } }
 {
     Warp {
         status: s,
