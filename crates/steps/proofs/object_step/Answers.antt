@@ -14,7 +14,7 @@ pub counted-requires : goal.counted-requires
 counted-requires c =
     let k = c.args.kind in
     let e = c.requires in
-    number_width k (has_field k 1 (omega (arith, e))) e c.in_default.rest
+    number_width k (has_field k 1 (omega (arith, e))) e (search rules)
 
 pub returns-in-8 : goal.returns-in-8
 returns-in-8 c = λ w x. rw c.in-8.is
@@ -32,7 +32,9 @@ returns-in-17 c =
 pub returns-in_default : goal.returns-in_default
 returns-in_default c =
     let a = c.args in
+    let e = c.requires in
     let n = c.four.result in
+    let four = number_width a.kind (has_field a.kind 1 (omega (arith, e))) e (search rules) in
     λ w x.
     c.counted.ensures w x (drop (a.at + 4) a.s.now)
-    ∙ one_more_lem a.kind (w ∷ x ∷ []) a.s.now a.at 4 n (counted-requires c tt) (lit< tt) c.four.ensures
+    ∙ one_more_lem a.kind (w ∷ x ∷ []) a.s.now a.at 4 n four (lit< tt) c.four.ensures

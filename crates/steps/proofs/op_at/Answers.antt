@@ -3,7 +3,6 @@
 use mathlib.Core.Path.{◌∙◌}
 use mathlib.Core.List.{[], ◌∷◌}
 use native.Mathlib.Omega.{arith}
-use borrow.Author.Rules.{rules}
 use lib.Dec.{lit<}
 use lib.ListN.{drop}
 use Rattle.steps.proofs.Each.{known}
@@ -21,9 +20,10 @@ pub returns-then-kind-le-RED : goal.returns-then-kind-le-RED
 returns-then-kind-le-RED c =
     let a = c.args in
     let x = c.one.result in
+    let one = barrier_width a.kind (omega (arith, c.if-kind-le-RED.true)) c.requires.0 c.if-kind-eq-EXIT.false in
     λ w.
     c.barrier_step.ensures w x
-    ∙ one_more_lem a.kind (w ∷ []) a.s.now a.at 1 x (barrier_step-requires c c.lifetimes).0 (lit< tt) c.one.ensures
+    ∙ one_more_lem a.kind (w ∷ []) a.s.now a.at 1 x one (lit< tt) c.one.ensures
 
 pub returns-then-kind-eq-PENDING_COUNT : goal.returns-then-kind-eq-PENDING_COUNT
 returns-then-kind-eq-PENDING_COUNT c =
@@ -38,6 +38,7 @@ pub returns : goal.returns
 returns c =
     let a = c.args in
     let x = c.two.result in
+    let two = address_width a.kind (known a.kind c.requires.0) c.if-kind-le-RED.false c.if-kind-eq-PENDING_COUNT.false in
     λ w.
     c.object_step.ensures w x
-    ∙ one_more_lem a.kind (w ∷ []) a.s.now a.at 2 x (object_step-requires c c.lifetimes) (lit< tt) c.two.ensures
+    ∙ one_more_lem a.kind (w ∷ []) a.s.now a.at 2 x two (lit< tt) c.two.ensures

@@ -3,7 +3,6 @@
 use mathlib.Core.Path.{◌∙◌, sym, ap}
 use mathlib.Core.List.{[]}
 use Prim.Native.Nat.{ℕ}
-use borrow.Author.Rules.{rules}
 use lib.Dec.{lit<}
 use lib.ListN.{drop}
 use Rattle.fields.specs.Num.{num}

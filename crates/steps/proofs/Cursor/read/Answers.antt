@@ -1,18 +1,15 @@
 -- `steps::Cursor::read` meets its contract: at each return the tests that led there say which case of reading holds.
 -- Assumes nothing.
-use mathlib.Core.Path.{sym, ◌∙◌}
-use Prim.Native.Nat.{◌+◌, ◌<◌}
+use mathlib.Core.Path.{◌≡◌, sym, ◌∙◌}
+use Prim.Native.Nat.{ℕ, ◌+◌, ◌<◌}
 use native.Mathlib.Omega.{arith}
 use Rattle.steps.specs.declared.Read.TheVariants.{Found}
-use Rattle.steps.specs.Step.{kind_at, length_of}
 use Rattle.steps.proofs.Reading.{read_end, read_unknown, read_short, read_found}
-use borrow.Author.Rules.{rules}
-use Rattle.steps.proofs.Cursor.read.Goals.{Else-n-eq0}
 use Rattle.steps.proofs.Cursor.read.Goals as goal
 
--- past the two first tests the kind is known
-is_known : (c : Else-n-eq0) → 0 < length_of (kind_at c.args.s.now c.args.self.at)
-is_known e = omega (arith, c.length_of-n.ensures, c.if-n-eq0.false)
+-- a kind whose length is not 0 is known
+is_known : {n m : ℕ} → n ≡ m → (n ≡ 0 → ⊥) → 0 < m
+is_known e z = omega arith
 
 pub returns-then-s-at : goal.returns-then-s-at
 returns-then-s-at c =
@@ -27,13 +24,13 @@ returns-then-n-eq0 c =
 pub returns-then-s-body : goal.returns-then-s-body
 returns-then-s-body c =
     let a = c.args in
-    read_short a.s.now a.self.at c.if-s-at.false (is_known c) (omega (arith, c.length_of-n.ensures, c.if-s-body.true))
+    read_short a.s.now a.self.at c.if-s-at.false (is_known c.length_of-n.ensures c.if-n-eq0.false) (omega (arith, c.length_of-n.ensures, c.if-s-body.true))
 
 pub step_at-requires : goal.step_at-requires
-step_at-requires c = (is_known c, omega arith)
+step_at-requires c = (is_known c.length_of-n.ensures c.if-n-eq0.false, omega arith)
 
 pub returns : goal.returns
 returns c =
     let a = c.args in
     (λ i. Found (c.step_at.ensures i) (record { at = a.self.at + 1 + c.length_of-n.ensures i }))
-    ∙ read_found a.s.now a.self.at c.if-s-at.false (is_known c) (omega (arith, c.length_of-n.ensures, c.if-s-body.false))
+    ∙ read_found a.s.now a.self.at c.if-s-at.false (is_known c.length_of-n.ensures c.if-n-eq0.false) (omega (arith, c.length_of-n.ensures, c.if-s-body.false))

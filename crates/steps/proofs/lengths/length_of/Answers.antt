@@ -1,12 +1,8 @@
 -- `steps::lengths::length_of` meets its contract: the table's rule.
 -- Assumes nothing.
 use native.Mathlib.Omega.{arith}
-use borrow.Author.Rules.{rules}
 use Rattle.steps.proofs.LengthTable.{rule, small}
 use Rattle.steps.proofs.lengths.length_of.Goals as goal
-
--- GONE array-read-result
--- array-read-result c = search rules
 
 pub overflow_cast-result-2 : goal.overflow_cast-result-2
 overflow_cast-result-2 c = omega (arith, small c.args.kind (omega arith))
