@@ -10,16 +10,13 @@ use Rattle.sets.specs.Sets.{has}
 use Rattle.block.specs.Tables.{warp_at, waits_at, agrees_at}
 use Rattle.block_sound.proofs.agrees.Goals as goal
 
--- GONE rows-holds
--- rows-holds c = (omega arith, refl, all_none _)
+pub rows-init : goal.rows-init
+rows-init c = (omega arith, refl, all_none _)
 
--- GONE rows-less
--- rows-less c = omega arith
-
--- GONE rows-again
--- rows-again c =
---     let inv = c.before.loop.invariant in
---     (omega arith, inv.1, all_more _ _ c.before.before.before.before.rows.invariant.2 (all_end _ 32 _ inv.0 c.loop-test.false inv.2))
+pub rows-preserved : goal.rows-preserved
+rows-preserved c =
+    let inv = c.loop-w.invariant in
+    (omega arith, inv.1, all_more _ _ c.rows.invariant.2 (all_end _ 32 _ inv.0 c.loop-w-test.false inv.2))
 
 pub overflow_cast-barrier : goal.overflow_cast-barrier
 overflow_cast-barrier c = omega arith
@@ -51,7 +48,7 @@ loop-w-smaller c = omega arith
 pub loop-w-preserved : goal.loop-w-preserved
 loop-w-preserved c =
     let inv = c.loop-w.invariant in
-    let same = not-false (beq c.has.result c.waits_at.result) c.if-not-ok.false in
+    let same = c.if-not-ok.false in
     (omega arith, same, all_more _ _ inv.2 (rw (c.has.ensures, c.waits_at.ensures) at same))
 
 pub overflow_add-k : goal.overflow_add-k
@@ -64,7 +61,7 @@ returns-after-rows c =
 
 pub returns-then-not-ok : goal.returns-then-not-ok
 returns-then-not-ok c =
-    let other = not-true (beq c.has.result c.waits_at.result) c.if-not-ok.true in
+    let other = c.if-not-ok.true in
     other
     ∙ sym
     (all_fails _ 16 c.rows.k (omega arith)

@@ -35,7 +35,7 @@ loop-w-smaller c = omega arith
 pub loop-w-preserved : goal.loop-w-preserved
 loop-w-preserved c =
     let w = c.loop-w.w in
-    let n = c.args.t1.warps in (
+    let n = c.args.b.warps in (
       omega arith,
       rw c.loop-w.invariant.1
           (set_of_more _ w _ (omega arith) (ap (λ (g : Bool). ltb w n && not g) c.is_exited.ensures)),

@@ -23,7 +23,7 @@ unfolding sound_block every
 returns c =
     rw (
       c.agrees.ensures,
-      not-false (warps_counted c.args.b) c.if-not-b.false,
+      c.if-not-b.false,
       sym c.warps_sound.ensures ∙ c.if-not-warps_sound.false,
       sym c.rows_sound.ensures ∙ c.if-not-rows_sound.false,
     )
