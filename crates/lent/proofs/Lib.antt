@@ -1,4 +1,2 @@
-pub mod Spelt
 pub mod Entries
 pub mod Laws
-pub mod Calls
