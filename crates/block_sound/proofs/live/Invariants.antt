@@ -1,12 +1,8 @@
-use mathlib.Core.Path.{◌≡◌, refl, ap}
-use mathlib.Core.Bool.{Bool, not, ◌&&◌}
+use mathlib.Core.Path.{◌≡◌}
+use mathlib.Core.Bool.{not, ◌&&◌}
 use Prim.Native.Nat.{◌≤◌, ◌-◌}
-use native.Mathlib.Nat.{le_antisymm}
-use native.Mathlib.Omega.{arith}
 use lib.Dec.{ltb}
-use borrow.Author.Rules.{rules}
 use Rattle.sets.specs.Sets.{set_of}
-use Rattle.sets.proofs.Sets.{set_of_more, set_of_fits}
 use Rattle.block.specs.Tables.{is_exited, warp_at}
 use Rattle.block_sound.proofs.live.Given as goal
 

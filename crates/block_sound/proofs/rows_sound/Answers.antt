@@ -1,36 +1,15 @@
-use mathlib.Core.Path.{◌≡◌, sym, ◌∙◌}
-use mathlib.Core.Bool.{true}
-use Prim.Native.Nat.{◌≤◌, ◌-◌}
+use mathlib.Core.Path.{sym, ◌∙◌}
 use native.Mathlib.Omega.{arith}
-use borrow.Author.Rules.{rules}
-use borrow.Author.Tests.{not-true, not-false}
-use Rattle.folds.specs.Folds.{all}
 use Rattle.folds.proofs.Folds.{all_none, all_more, all_fails, all_end}
-use Rattle.block.specs.Tables.{barrier_at, row_sound}
 use Rattle.block_sound.proofs.rows_sound.Goals as goal
 
 pub loop-k-init : goal.loop-k-init
 loop-k-init c = (omega arith, all_none _)
 
-pub overflow_cast-row : goal.overflow_cast-row
-overflow_cast-row c = omega arith
-
-pub offset_bounds-b-k : goal.offset_bounds-b-k
-offset_bounds-b-k c = omega arith
-
-pub bounds-b-k : goal.bounds-b-k
-bounds-b-k c = omega arith
-
 pub returns-then-not-row_sound : goal.returns-then-not-row_sound
 returns-then-not-row_sound c =
     rw (← c.live-alive.ensures)
     (sym (all_fails _ 16 c.loop-k.k (omega arith) (sym c.row_sound.ensures ∙ c.if-not-row_sound.true)))
-
-pub overflow_add-k : goal.overflow_add-k
-overflow_add-k c = omega arith
-
-pub loop-k-smaller : goal.loop-k-smaller
-loop-k-smaller c = omega arith
 
 pub loop-k-preserved : goal.loop-k-preserved
 loop-k-preserved c =

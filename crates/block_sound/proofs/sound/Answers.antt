@@ -1,14 +1,12 @@
 use mathlib.Core.Path.{◌∙◌, sym}
-use borrow.Author.Tests.{not-true, not-false}
-use borrow.Author.Rules.{rules}
 use Rattle.folds.specs.Folds.{every}
-use Rattle.block.specs.Tables.{warps_counted, sound_block}
+use Rattle.block.specs.Tables.{sound_block}
 use Rattle.folds.proofs.Folds.{every_fails}
 use Rattle.block_sound.proofs.sound.Goals as goal
 
 pub returns-then-not-b : goal.returns-then-not-b
 unfolding sound_block
-returns-then-not-b c = every_fails _ 0 (c.if-not-b.true)
+returns-then-not-b c = every_fails _ 0 c.if-not-b.true
 
 pub returns-then-not-warps_sound : goal.returns-then-not-warps_sound
 unfolding sound_block

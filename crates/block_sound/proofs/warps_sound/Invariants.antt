@@ -1,11 +1,7 @@
-use mathlib.Core.Path.{◌≡◌, sym, ◌∙◌}
+use mathlib.Core.Path.{◌≡◌}
 use mathlib.Core.Bool.{true}
 use Prim.Native.Nat.{◌≤◌, ◌-◌}
-use native.Mathlib.Omega.{arith}
-use borrow.Author.Rules.{rules}
-use borrow.Author.Tests.{not-true, not-false}
 use Rattle.folds.specs.Folds.{all}
-use Rattle.folds.proofs.Folds.{all_none, all_more, all_fails, all_end}
 use Rattle.block.specs.Tables.{warp_at, warp_sound}
 use Rattle.block_sound.proofs.warps_sound.Given as goal
 
