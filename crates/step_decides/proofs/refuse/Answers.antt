@@ -1,0 +1,5 @@
+use borrow.Author.Rules.{rules}
+use Rattle.step_decides.proofs.refuse.Goals as goal
+
+pub returns : goal.returns
+returns c = rw c.no_change-change.ensures
