@@ -2,7 +2,6 @@
 -- Assumes nothing.
 use mathlib.Core.Path.{refl}
 use native.Mathlib.Omega.{arith}
-use borrow.Author.Rules.{rules}
 use Rattle.digits.specs.Digits.{decimal}
 use Rattle.digits.proofs.Digits.{decimal_most}
 use Rattle.lines.proofs.Stores.{begin, next_laid}

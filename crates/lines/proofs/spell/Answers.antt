@@ -1,6 +1,5 @@
 -- `lines::spell` meets its contract, case by case.
 -- Assumes nothing.
-use borrow.Author.Rules.{rules}
 use Rattle.lines.proofs.spell.Goals as goal
 
 pub returns-in-Refused : goal.returns-in-Refused
