@@ -7,9 +7,6 @@ use Rattle.fields.specs.Num.{laid}
 use Rattle.digits.specs.Digits.{warps}
 use Rattle.digits.proofs.put_warps.Goals as goal
 
--- GONE slice-aggregate-put
--- slice-aggregate-put c = search rules
-
 pub returns-then-set-eq0 : goal.returns-then-set-eq0
 returns-then-set-eq0 c =
     let a = c.args in

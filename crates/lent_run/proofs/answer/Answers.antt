@@ -11,29 +11,22 @@ use Rattle.tables.specs.Effect.{live_after}
 use Rattle.lent_run.specs.declared.Checked.{Checked}
 use Rattle.lent_run.specs.declared.Gone.{Gone}
 use Rattle.lent_run.specs.Run.{checked_after}
-use Rattle.lent_run.proofs.answer.Statement.{statement}
-use Rattle.lent_run.proofs.answer.Tie as tie
-
-is-exit-requires : tie.Need-is-exit-requires
-is-exit-requires c κs = search rules
-
-is-accepted-requires : tie.Need-is-accepted-requires
-is-accepted-requires c κs = search rules
+use Rattle.lent_run.proofs.answer.Goals as goal
 
 -- who is live, by the two tests
 module _ (live : ℕ) (s : Step) (v : Verdict) (x y : Bool) (exits : x ≡ is_exit s.op) (passes : y ≡ is_accepted v) where
   tested : cond (x && y) (less live s.warp) live ≡ live_after live s v
   tested = ap₂ (λ (t u : Bool). cond (t && u) (less live s.warp) live) exits passes
 
-  stay : not (x && y) ≡ true → live ≡ live_after live s v
-  stay h = go (x && y) (not-true (x && y) h) ∙ tested
+  stay : x && y ≡ false → live ≡ live_after live s v
+  stay h = go (x && y) h ∙ tested
     where
       go : (t : Bool) → t ≡ false → live ≡ cond t (less live s.warp) live
       go true e = cc
       go false e = refl
 
-  leave : not (x && y) ≡ false → less live s.warp ≡ live_after live s v
-  leave h = go (x && y) (not-false (x && y) h) ∙ tested
+  leave : x && y ≡ true → less live s.warp ≡ live_after live s v
+  leave h = go (x && y) h ∙ tested
     where
       go : (t : Bool) → t ≡ true → less live s.warp ≡ cond t (less live s.warp) live
       go true e = refl
@@ -43,23 +36,14 @@ module _ (live : ℕ) (s : Step) (v : Verdict) (x y : Bool) (exits : x ≡ is_ex
 abbrev told : Checked → Verdict → ℕ → Gone
 told c v live = record { verdict = v; checked = record { sound = c.sound; live = live } }
 
-returns : tie.Need-returns
+pub returns-then-not-is_exit-is_accepted : goal.returns-then-not-is_exit-is_accepted
+unfolding checked_after
+returns-then-not-is_exit-is_accepted c =
+    let g = c.args in
+    ap (told g.c g.v) (stay g.c.live g.s g.v _ _ c.is_exit.ensures c.is_accepted.ensures c.if-not-is_exit-is_accepted.true)
+
+pub returns : goal.returns
 unfolding checked_after
 returns c =
-    let a = c.before in
-    let g = a.before.before.args in
-    ap (told g.c g.v) (stay g.c.live g.s g.v _ _ a.before.is_exit_lem.ensures a.is-accepted.ensures c.if1.true)
-
-less-requires : tie.Need-less-requires
-less-requires c κs = search rules
-
-returns-2 : tie.Need-returns-2
-unfolding checked_after
-returns-2 c =
-    let a = c.before.before in
-    let g = a.before.before.args in
-    ap (told g.c g.v) (c.less.ensures ∙ leave g.c.live g.s g.v _ _ a.before.is_exit_lem.ensures a.is-accepted.ensures c.before.if1.false)
-
-pub answer-spec : {M : Type 1} → statement M
-answer-spec =
-    tie.close (tie.spec is-exit-requires is-accepted-requires returns less-requires returns-2)
+    let g = c.args in
+    ap (told g.c g.v) (c.less.ensures ∙ leave g.c.live g.s g.v _ _ c.is_exit.ensures c.is_accepted.ensures c.if-not-is_exit-is_accepted.false)
