@@ -162,6 +162,7 @@ fn step_at(kind: u8, s: &[u8], at: usize) -> Step
 
 impl Cursor {
     // The step at the cursor with the cursor after it, or the refusal: 1 an unknown kind, 2 too few bytes.
+    #[tactic(auto, using(crate::proofs::Reading::read_end, crate::proofs::Reading::read_unknown, crate::proofs::Reading::read_short, crate::proofs::Reading::read_found))]
     pub fn read(self, s: &[u8]) -> Read
         ensures { result ≡ read_at s.now self.at }
     {

@@ -7,7 +7,7 @@ use native.Mathlib.Omega.{arith}
 use borrow.Author.Rules.{rules}
 use lib.Dec.{lit<}
 use lib.ListN.{drop}
-use Rattle.steps.proofs.Fields.{has_field, number_width, of_kind, one_more_lem}
+use Rattle.steps.proofs.Fields.{has_field, number_width, one_more_lem}
 use Rattle.steps.proofs.object_step.Goals as goal
 
 pub counted-requires : goal.counted-requires
@@ -15,19 +15,6 @@ counted-requires c =
     let k = c.args.kind in
     let e = c.requires in
     number_width k (has_field k 1 (omega (arith, e))) e (search rules)
-
-pub returns-in-8 : goal.returns-in-8
-returns-in-8 c = λ w x. rw c.in-8.is
-
-pub returns-in-16 : goal.returns-in-16
-returns-in-16 c =
-    let a = c.args in
-    λ w x. rw c.eight.ensures (of_kind (w ∷ x ∷ []) (drop a.at a.s.now) c.in-16.is)
-
-pub returns-in-17 : goal.returns-in-17
-returns-in-17 c =
-    let a = c.args in
-    λ w x. rw c.one.ensures (of_kind (w ∷ x ∷ []) (drop a.at a.s.now) c.in-17.is)
 
 pub returns-in_default : goal.returns-in_default
 returns-in_default c =

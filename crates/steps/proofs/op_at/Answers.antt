@@ -4,13 +4,9 @@ use mathlib.Core.Path.{◌∙◌}
 use mathlib.Core.List.{[], ◌∷◌}
 use native.Mathlib.Omega.{arith}
 use lib.Dec.{lit<}
-use lib.ListN.{drop}
 use Rattle.steps.proofs.Each.{known}
-use Rattle.steps.proofs.Fields.{barrier_width, address_width, of_kind, one_more_lem}
+use Rattle.steps.proofs.Fields.{barrier_width, address_width, one_more_lem}
 use Rattle.steps.proofs.op_at.Goals as goal
-
-pub returns-then-kind-eq-EXIT : goal.returns-then-kind-eq-EXIT
-returns-then-kind-eq-EXIT c = λ w. rw c.if-kind-eq-EXIT.true
 
 pub barrier_step-requires : goal.barrier_step-requires
 barrier_step-requires c =
@@ -24,11 +20,6 @@ returns-then-kind-le-RED c =
     λ w.
     c.barrier_step.ensures w x
     ∙ one_more_lem a.kind (w ∷ []) a.s.now a.at 1 x one (lit< tt) c.one.ensures
-
-pub returns-then-kind-eq-PENDING_COUNT : goal.returns-then-kind-eq-PENDING_COUNT
-returns-then-kind-eq-PENDING_COUNT c =
-    let a = c.args in
-    λ w. rw c.eight.ensures (of_kind (w ∷ []) (drop a.at a.s.now) c.if-kind-eq-PENDING_COUNT.true)
 
 pub object_step-requires : goal.object_step-requires
 object_step-requires c =
