@@ -1,1 +1,2 @@
 pub mod WidthTable
+pub mod Room

@@ -89,6 +89,7 @@ fn put_row(out: &mut [u8], at: usize, kind: u8, v: [u64; 5])
 }
 
 // The bytes of a step, laid in at a place; where they do not fit, 2, and nothing changes.
+#[tactic(auto, using(crate::proofs::Room::short))]
 pub fn write(step: Step, out: &mut [u8], at: usize) -> Wrote
     ensures { (result ≡ write_at step out.old at) × (out.new ≡ written step out.old at) }
 {

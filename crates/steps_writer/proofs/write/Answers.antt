@@ -1,8 +1,8 @@
 -- `steps_writer::write` meets its contract: at each return the tests that led there say whether there is room.
 -- Assumes nothing.
-use mathlib.Core.Path.{◌≡◌, sym, ap, ◌∙◌}
+use mathlib.Core.Path.{◌≡◌, ap, ◌∙◌}
 use mathlib.Core.List.{List}
-use Prim.Native.Nat.{ℕ, suc, ◌+◌}
+use Prim.Native.Nat.{ℕ, ◌+◌}
 use native.Mathlib.Omega.{arith}
 use native.Mathlib.Numerals.{add-one}
 use lib.ListN.{length, set, length-set}
@@ -10,13 +10,10 @@ use lib.Seq.{sets, length-sets}
 use Rattle.fields.specs.Row.{encode}
 use Rattle.steps.specs.declared.Step.{Step}
 use Rattle.steps.specs.declared.Wrote.TheVariants.{Next}
-use Rattle.steps.specs.Step.{row, length_of, kind_of, values_of, bytes_of}
-use Rattle.steps.proofs.Writing.{own, size, no_room, has_room}
+use Rattle.steps.specs.Step.{row, kind_of, values_of, bytes_of}
+use Rattle.steps.proofs.Writing.{own, has_room}
+use Rattle.steps_writer.proofs.Room.{size_is}
 use Rattle.steps_writer.proofs.write.Goals as goal
-
--- the length that was looked up is the step's
-size_is : (s : Step) (kind n : ℕ) → kind ≡ kind_of s → n ≡ length_of kind → length (bytes_of s) ≡ suc n
-size_is s kind n ek en = size s ∙ ap suc (sym (en ∙ ap length_of ek))
 
 -- what the two stores leave
 stored : (s : Step) (kind : ℕ) (v out left : List ℕ) (at : ℕ) → kind ≡ kind_of s → v ≡ values_of s
@@ -25,21 +22,11 @@ stored : (s : Step) (kind : ℕ) (v out left : List ℕ) (at : ℕ) → kind ≡
 stored s kind v out left at ek ev e =
     e ∙ (λ i. sets (set out at (ek i)) (add-one at i) (encode (row (ek i)) (ev i)))
 
-pub returns-then-out-at : goal.returns-then-out-at
-returns-then-out-at c =
-    let a = c.args in
-    no_room a.step a.out.now a.at (omega (arith, size_is a.step _ _ c.parts_of-p.ensures.0 c.length_of-n.ensures, c.if-out-at.true))
-
-pub returns-then-out-body : goal.returns-then-out-body
-returns-then-out-body c =
-    let a = c.args in
-    no_room a.step a.out.now a.at (omega (arith, size_is a.step _ _ c.parts_of-p.ensures.0 c.length_of-n.ensures, c.if-out-body.true))
-
 pub put_row-requires : goal.put_row-requires
 put_row-requires c =
     let a = c.args in (
       rw c.parts_of-p.ensures.0 (own a.step.op).below,
-      simp length-set (omega (arith, c.length_of-n.ensures, c.if-out-body.false, c.if-out-at.false)),
+      simp length-set (omega (arith, c.length_of-n.ensures)),
     )
 
 pub shape_of-out : goal.shape_of-out
@@ -53,6 +40,6 @@ returns c =
     let a = c.args in
     let e = c.parts_of-p.ensures in
     let z = size_is a.step _ _ c.parts_of-p.ensures.0 c.length_of-n.ensures in
-    let room = has_room a.step a.out.now a.at (omega (arith, z, c.if-out-body.false, c.if-out-at.false)) in
+    let room = has_room a.step a.out.now a.at (omega (arith, z)) in
     let place : a.at + 1 + c.length_of-n.result ≡ a.at + length (bytes_of a.step) = omega (arith, z) in
     (ap Next place ∙ room.0, stored a.step _ _ a.out.now _ a.at e.0 e.1 c.put_row.ensures ∙ room.1)
