@@ -4,7 +4,7 @@ use borrow.Author.Tests.{not-true, not-false}
 use Rattle.lent_run.proofs.found.Goals as goal
 
 pub returns-then-not-sound-fine : goal.returns-then-not-sound-fine
-returns-then-not-sound-fine c = rw (← c.sound.ensures, not-true (c.sound.result && c.args.fine) c.if-not-sound-fine.true)
+returns-then-not-sound-fine c = rw (← c.sound.ensures, c.if-not-sound-fine.true)
 
 pub returns : goal.returns
-returns c = rw (← c.sound.ensures, not-false (c.sound.result && c.args.fine) c.if-not-sound-fine.false, c.live.ensures)
+returns c = rw (← c.sound.ensures, c.if-not-sound-fine.false, c.live.ensures)
