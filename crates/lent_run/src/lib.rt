@@ -3,6 +3,7 @@
 
 ghost use Rattle.std.specs.Prelude.{◌≡◌, ◌&&◌};
 ghost use Rattle.block.specs.Tables.{live_of, sound_block};
+ghost use Rattle.block_laws.specs.Sound.{Shaped};
 ghost use Rattle.tables.specs.Tables.{fresh_tables, is_accepted};
 ghost use Rattle.lent.specs.Entries.{tables_of, state_of};
 ghost use Rattle.lent_run.specs.Run.{known, checked_of, checked_after, GoneOn};
@@ -44,7 +45,8 @@ pub fn fresh_checked(warps: u8) -> Checked
 
 // What a check finds in a block, where the object rows are sound or not.
 fn found(b: Block, fine: bool) -> Checked
-    ensures { result ≡ known (sound_block b && fine) (live_of b) }
+    ensures known { result ≡ known (sound_block b && fine) (live_of b) }
+    ensures shaped { Shaped b }
 {
     if !(block_sound::sound(b) & fine) {
         return Checked {
@@ -60,7 +62,8 @@ fn found(b: Block, fine: bool) -> Checked
 
 // Checks the tables; they stay as they are.
 pub fn check(b: &mut Block, objects: &[Object]) -> Checked
-    ensures { (result ≡ checked_of (tables_of b.old objects.now)) × (b.new ≡ b.old) }
+    ensures known { (result ≡ checked_of (tables_of b.old objects.now)) × (b.new ≡ b.old) }
+    ensures shaped { Shaped b.old }
 {
     let fine = object_list::rows_sound(objects);
     found(*b, fine)
