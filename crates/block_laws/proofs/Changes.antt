@@ -16,7 +16,7 @@ use Rattle.sets.proofs.Sets.{has_less, less_lt, set_of_lt, ext}
 use Rattle.block.specs.Tables.{most_warps, barrier_count, fresh_warp, idle, warp_at, barrier_at, is_exited, live_of, sound_block}
 use Rattle.barrier_row.specs.Rows.{arrived_row, result_of}
 use Rattle.block_steps.proofs.Changes.{live_other, live_own}
-use Rattle.block_steps.specs.Steps.{released_warp, freed_by, completed, goes_on, arrival, without, opens, opened, exit}
+use Rattle.block_steps.specs.Steps.{released_warp, freed_by, completed, goes_on, without, opens, opened}
 use Rattle.block.specs.declared.Status.TheVariants.{Ready, Waiting}
 use Rattle.block.specs.declared.Warp.{Warp}
 use Rattle.block.specs.declared.Barrier.{Barrier}

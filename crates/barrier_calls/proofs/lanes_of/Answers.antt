@@ -1,5 +1,4 @@
 use borrow.Author.Tests.{lt-ltb, le-ltb}
-use borrow.Author.Rules.{rules}
 use Rattle.barrier_calls.proofs.lanes_of.Goals as goal
 
 pub returns-then-selector-gt3 : goal.returns-then-selector-gt3

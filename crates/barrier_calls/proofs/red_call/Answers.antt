@@ -1,4 +1,3 @@
-use borrow.Author.Rules.{rules}
 use Rattle.barrier_calls.proofs.red_call.Goals as goal
 
 pub returns : goal.returns

@@ -1,4 +1,3 @@
-use borrow.Author.Rules.{rules}
 use Rattle.barrier_row.proofs.arrived_row.Goals as goal
 
 pub returns : goal.returns

@@ -1,4 +1,3 @@
-use borrow.Author.Rules.{rules}
 use Rattle.barrier_row.proofs.bad_threads.Goals as goal
 
 pub returns-in-Given : goal.returns-in-Given

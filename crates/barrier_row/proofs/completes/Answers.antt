@@ -1,6 +1,5 @@
 use native.Mathlib.Omega.{arith}
 use borrow.Author.Tests.{eq-eqb, ne_eqb}
-use borrow.Author.Rules.{rules}
 use Rattle.sets.proofs.Sets.{size_le}
 use Rattle.barrier_row.proofs.completes.Goals as goal
 

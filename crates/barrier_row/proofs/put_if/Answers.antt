@@ -1,4 +1,3 @@
-use borrow.Author.Rules.{rules}
 use Rattle.barrier_row.proofs.put_if.Goals as goal
 
 pub returns-then-waits : goal.returns-then-waits

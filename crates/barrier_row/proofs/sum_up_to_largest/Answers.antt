@@ -1,7 +1,6 @@
 use Prim.Native.Nat.{◌+◌}
 use native.Mathlib.Omega.{arith}
 use borrow.Author.Tests.{le-leb, lt-leb}
-use borrow.Author.Rules.{rules}
 use Rattle.barrier_row.proofs.sum_up_to_largest.Goals as goal
 
 pub returns-then-b-a : goal.returns-then-b-a

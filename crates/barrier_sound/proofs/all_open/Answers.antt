@@ -1,4 +1,3 @@
-use borrow.Author.Rules.{rules}
 use Rattle.barrier_sound.proofs.all_open.Goals as goal
 
 pub returns : goal.returns

@@ -1,5 +1,4 @@
 use native.Mathlib.Omega.{arith}
-use borrow.Author.Rules.{rules}
 use Rattle.sets.proofs.Sets.{size_le}
 use Rattle.barrier_sound.proofs.reduction_waits.Goals as goal
 

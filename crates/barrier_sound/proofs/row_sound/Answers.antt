@@ -1,4 +1,3 @@
-use borrow.Author.Rules.{rules}
 use Rattle.folds.specs.Folds.{every}
 use Rattle.barrier_sound.proofs.row_sound.Goals as goal
 

@@ -1,5 +1,4 @@
 use mathlib.Core.Path.{sym, ◌∙◌}
-use borrow.Author.Rules.{rules}
 use Rattle.block_steps.proofs.Changes.{arrival_refused, arrival_completes, arrival_waits, arrival_goes_on}
 use Rattle.block_arrive.proofs.arrival.Goals as goal
 

@@ -1,6 +1,5 @@
 use mathlib.Core.Path.{◌∙◌, sym}
 use borrow.Author.Tests.{eq-eqb, ne_eqb, le-leb, lt-leb}
-use borrow.Author.Rules.{rules}
 use Rattle.folds.proofs.Lowest.{line_holds, line_passed, no_line}
 use Rattle.block_arrive.proofs.refusal.Goals as goal
 

@@ -1,13 +1,10 @@
 use mathlib.Core.Path.{◌≡◌, refl, sym, ap, ◌∙◌}
-use Prim.Native.Nat.{◌≤◌, ◌-◌}
 use native.Mathlib.Omega.{arith}
 use lib.ListN.{get_or}
-use borrow.Author.Rules.{rules}
 use Rattle.folds.specs.Folds.{first, every}
 use Rattle.folds.proofs.Folds.{first_none, first_found, first_end}
 use Rattle.sets.specs.Sets.{put, part}
 use Rattle.block.specs.Tables.{idle}
-use Rattle.block_steps.specs.Changes.{opens_for}
 use Rattle.block_exit.proofs.opened.Goals.{After-part}
 use Rattle.block_exit.proofs.opened.Goals as goal
 
@@ -39,10 +36,10 @@ loop-k-smaller c = omega arith
 pub loop-k-preserved : goal.loop-k-preserved
 unfolding every
 loop-k-preserved c = (
-      omega arith,
-      first_none _ _ c.loop-k.invariant.1
-          (rw (c.form_number.ensures, arrived_is c.before) at c.if-form_number-r.false),
-    )
+  omega arith,
+  first_none _ _ c.loop-k.invariant.1
+      (rw (c.form_number.ensures, arrived_is c.before) at c.if-form_number-r.false),
+)
 
 pub returns-after-loop-k : goal.returns-after-loop-k
 returns-after-loop-k c = first_end _ _ 16 c.loop-k.invariant.0 c.loop-k-test.false c.loop-k.invariant.1

@@ -1,11 +1,7 @@
-use mathlib.Core.Path.{◌≡◌, refl, sym, ap, ◌∙◌}
+use mathlib.Core.Path.{◌≡◌}
 use Prim.Native.Nat.{◌≤◌, ◌-◌}
-use native.Mathlib.Omega.{arith}
 use lib.ListN.{get_or}
-use borrow.Author.Rules.{rules}
-use Rattle.folds.specs.Folds.{first, every}
-use Rattle.folds.proofs.Folds.{first_none, first_found, first_end}
-use Rattle.sets.specs.Sets.{put, part}
+use Rattle.folds.specs.Folds.{first}
 use Rattle.block.specs.Tables.{idle}
 use Rattle.block_steps.specs.Changes.{opens_for}
 use Rattle.block_exit.proofs.opened.Given as goal

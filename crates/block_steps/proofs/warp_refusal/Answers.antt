@@ -1,6 +1,5 @@
 use mathlib.Core.Path.{sym, ap, ◌∙◌}
 use mathlib.Core.Bool.{not}
-use borrow.Author.Rules.{rules}
 use borrow.Author.Tests.{le-leb, lt-leb}
 use Rattle.folds.proofs.Lowest.{line_holds, line_passed, no_line}
 use Rattle.block_steps.proofs.warp_refusal.Goals as goal

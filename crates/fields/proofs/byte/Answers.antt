@@ -1,7 +1,6 @@
 -- `fields::byte` meets its contract: past the end the list's default stands.
 -- Assumes nothing.
 use mathlib.Core.Path.{sym}
-use borrow.Author.Rules.{rules}
 use lib.ListN.{get_or-eq_default}
 use Rattle.fields.proofs.byte.Goals as goal
 

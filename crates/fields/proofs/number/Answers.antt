@@ -1,7 +1,6 @@
 -- `fields::number` meets its contract: past the end there is no byte, and the part from a place on is what the place drops.
 -- Assumes nothing.
 use Rattle.fields.proofs.Num.{number_past, number_cut, up_to8_wide, up_to8_narrow}
-use borrow.Author.Rules.{rules}
 use Rattle.fields.proofs.number.Goals as goal
 
 pub returns-then-s-at : goal.returns-then-s-at

@@ -4,7 +4,6 @@ use mathlib.Core.Path.{◌∙◌}
 use native.Mathlib.Omega.{arith}
 use Rattle.fields.specs.Num.{bytes}
 use Rattle.fields.proofs.Num.{length_bytes, laid_fits, laid_short}
-use borrow.Author.Rules.{rules}
 use Rattle.fields_writer.proofs.put.Goals as goal
 
 pub returns-then-out-at : goal.returns-then-out-at

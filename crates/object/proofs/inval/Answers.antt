@@ -1,7 +1,6 @@
 -- `object::inval` meets its contract. Each return is a line of the table, or that none holds.
 -- Assumes nothing.
 use mathlib.Core.Path.{refl}
-use borrow.Author.Rules.{rules}
 use Rattle.object.proofs.Row.{line_12, no_line}
 use Rattle.object.proofs.inval.Goals as goal
 

@@ -1,6 +1,5 @@
 -- `object::sound` meets its contract. By the one test, each side by its own function.
 -- Assumes nothing.
-use borrow.Author.Rules.{rules}
 use Rattle.object.proofs.sound.Goals as goal
 
 pub returns-then-o : goal.returns-then-o

@@ -2,7 +2,6 @@
 -- Assumes nothing.
 use lib.IntN.{pos, ◌+ℤ◌}
 use mathlib.Core.Path.{refl, sym, ◌∙◌}
-use borrow.Author.Rules.{rules}
 use Rattle.object.proofs.Row.{line_12, line_14, line_15, line_16, settles}
 use Rattle.object_phases.proofs.Tx.{went_out, stayed_in}
 use Rattle.object_phases.proofs.arrive.Goals as goal

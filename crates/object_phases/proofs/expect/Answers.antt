@@ -2,7 +2,6 @@
 -- Assumes nothing.
 use lib.IntN.{pos, ◌+ℤ◌}
 use mathlib.Core.Path.{refl}
-use borrow.Author.Rules.{rules}
 use Rattle.object.proofs.Row.{line_12, line_15, no_line}
 use Rattle.object_phases.proofs.Tx.{went_out, stayed_in}
 use Rattle.object_phases.proofs.expect.Goals as goal

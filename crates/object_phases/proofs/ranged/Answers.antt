@@ -1,6 +1,5 @@
 -- `object_phases::ranged` meets its contract. A count in the range fits an i32, and is itself there.
 -- Assumes nothing.
-use borrow.Author.Rules.{rules}
 use mathlib.Core.Path.{◌∙◌}
 use Rattle.object.proofs.Signed.{judged, narrow_fits, narrow}
 use Rattle.object_phases.proofs.ranged.Goals as goal

@@ -1,7 +1,7 @@
 -- `object_phases::settle` meets its contract. Each return by the tests that led there.
 -- Assumes nothing.
 use mathlib.Core.Path.{sym, ◌∙◌}
-use borrow.Author.Tests.{eq-eqb, ne_eqb, not-true, not-false}
+use borrow.Author.Tests.{eq-eqb, ne_eqb}
 use borrow.Author.Rules.{rules}
 use Rattle.object.proofs.Signed.{same}
 use Rattle.object_phases.proofs.settle.Goals as goal

@@ -1,6 +1,5 @@
 -- `object_steps::step` meets its contract. Each arm is what the act's own function ensures; where that has no slot, the step goes by none.
 -- Assumes nothing.
-use borrow.Author.Rules.{rules}
 use Rattle.object.specs.Row.{step_row}
 use Rattle.object_steps.proofs.step.Goals as goal
 

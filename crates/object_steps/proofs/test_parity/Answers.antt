@@ -2,7 +2,6 @@
 -- Assumes nothing.
 use mathlib.Core.Path.{refl, ◌∙◌}
 use borrow.Author.Tests.{lt-ltb, le-ltb}
-use borrow.Author.Rules.{rules}
 use Rattle.object.proofs.Row.{line_12, line_20, no_line}
 use Rattle.object_steps.proofs.test_parity.Goals as goal
 

@@ -1,5 +1,4 @@
 use mathlib.Core.Path.{sym, ◌∙◌}
-use borrow.Author.Rules.{rules}
 use Rattle.sets.proofs.Sets.{has_below, one_shifted, digit_le}
 use Rattle.sets.proofs.less.Goals as goal
 

@@ -1,4 +1,3 @@
-use borrow.Author.Rules.{rules}
 use Rattle.sets.proofs.Sets.{part_below}
 use Rattle.sets.proofs.within.Goals as goal
 

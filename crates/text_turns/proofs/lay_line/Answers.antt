@@ -1,0 +1,20 @@
+-- `text_turns::lay_line` meets its contract: the line is no longer than the longest.
+-- Assumes nothing.
+use Prim.Native.Nat.{◌+◌}
+use native.Mathlib.Omega.{arith}
+use borrow.Author.Rules.{rules}
+use Rattle.lines.proofs.Lines.{line_most}
+use Rattle.text_turns.proofs.lay_line.Goals as goal
+
+-- GONE add-t13
+-- add-t13 c =
+--     let p = c.before.before in
+--     let s = p.before.before.before.before.before.before in
+--     omega (arith, p.put-line.ensures.0, line_most s.args.number s.args.v, s.requires)
+
+pub returns : goal.returns
+returns c =
+    let a = c.args in (
+      λ i. record { going = a.l.going; stop = a.l.stop; at = a.l.at + c.put_line.ensures.0 i; cursor = a.l.cursor; step = a.l.step; first = c.first_after-first.ensures i },
+      c.put_line.ensures.1,
+    )

@@ -1,0 +1,35 @@
+-- `text_turns::lay_steps` meets its contract: the turns of fresh tables, which are known to be sound.
+-- Assumes nothing.
+use mathlib.Core.Path.{ap, ◌∙◌, sym, subst}
+use Prim.Native.Nat.{ℕ}
+use borrow.Author.Rules.{rules}
+use lib.ListN.{get_or}
+use Rattle.tables.specs.Tables.{fresh_tables}
+use Rattle.tables.specs.Effect.{State}
+use Rattle.owned.specs.declared.OwnedTurn.{OwnedTurn}
+use Rattle.owned.specs.Owner.{state_in, owned_fresh}
+use Rattle.lent_run.specs.declared.Checked.{Checked}
+use Rattle.lent_run.specs.Run.{checked_of}
+use Rattle.lent_run_laws.specs.Laws.{Fits}
+use Rattle.lent_run_laws.proofs.Laws.{check_fits}
+use Rattle.trace_look.specs.declared.Laying.{Laying}
+use Rattle.text_turns.proofs.Buffer.{owns_fresh}
+use Rattle.text_turns.proofs.lay_steps.Goals as goal
+
+pub lay_turns-requires : goal.lay_turns-requires
+lay_turns-requires c =
+    let s = c.args.trace.now in
+    let same = c.requires.1 in
+    let state = c.fresh_owned-t.ensures ∙ ap owned_fresh same in
+    let fresh = ap (λ (t : OwnedTurn). state_in t.state) state ∙ owns_fresh s c.requires.0 in
+    let first = c.first_place.ensures in
+    record {
+      unrefused = c.requires.0;
+      fresh = fresh;
+      first = ap (λ (l : Laying). l.cursor.at) first;
+      place = ap (λ (l : Laying). l.at) first;
+      none = ap (λ (l : Laying). l.first) first;
+      fits =
+          subst (λ (x : State). Fits c.fresh_checked.result x.tables) (sym fresh)
+          (subst (λ (known : Checked). Fits known (fresh_tables (get_or s 0 0))) (sym (c.fresh_checked.ensures ∙ ap (λ (w : ℕ). checked_of (fresh_tables w)) same)) (check_fits (fresh_tables (get_or s 0 0))));
+    }
