@@ -9,26 +9,33 @@ ghost use Rattle.answering.specs.Answers.{input_answered, plus_file, FilesAnswer
 
 use output::Written;
 use reading::{Filled, TRACE_ROOM};
+use std::io::Input;
+use std::rt::{Env, Files};
 use whole_text::TEXT_ROOM;
 
 // Answers the trace on standard input.
-fn from_input(trace: &mut [u8; TRACE_ROOM], text: &mut [u8; TEXT_ROOM]) -> Written
+fn from_input<R: Input + Print + Eprint>(
+    rt: &R,
+    trace: &mut [u8; TRACE_ROOM],
+    text: &mut [u8; TEXT_ROOM],
+) -> Written
     ensures { result ≡ input_answered result.all }
 {
-    let filled = reading::standard(&mut *trace);
+    let filled = reading::standard(rt, &mut *trace);
     match filled {
         Filled::Bytes(read) => {
             let buf: &[u8] = trace;
             let length = whole_text::lay_whole(read, buf, &mut *text);
             let bytes: &[u8] = text;
-            output::input_text(read, buf, &bytes[..length])
+            output::input_text(rt, read, buf, &bytes[..length])
         }
-        Filled::Failed(failure) => output::input_unreadable(failure),
+        Filled::Failed(failure) => output::input_unreadable(rt, failure),
     }
 }
 
 // Answers the trace file that argument i names, the one after those that were answered.
-fn argument(
+fn argument<R: Env + Files + Print + Eprint>(
+    rt: &R,
     before: Written,
     i: usize,
     trace: &mut [u8; TRACE_ROOM],
@@ -38,27 +45,32 @@ fn argument(
     ensures { result ≡ plus_file before result.all }
 {
     let mut room = io::buffer();
-    let filled = reading::argument(i, &mut room, &mut *trace);
+    let filled = reading::argument(rt, i, &mut room, &mut *trace);
     let name: &[u8] = &room;
     match filled {
         Filled::Bytes(read) => {
             let buf: &[u8] = trace;
             let length = whole_text::lay_whole(read, buf, &mut *text);
             let bytes: &[u8] = text;
-            output::file_text(before, read, name, buf, &bytes[..length])
+            output::file_text(rt, before, read, name, buf, &bytes[..length])
         }
-        Filled::Failed(failure) => output::file_unreadable(before, failure, name),
+        Filled::Failed(failure) => output::file_unreadable(rt, before, failure, name),
     }
 }
 
 // Answers the trace files that the arguments name, one after the other, up to the first whose answer can't be written.
-fn arguments(count: usize, trace: &mut [u8; TRACE_ROOM], text: &mut [u8; TEXT_ROOM]) -> Written
+fn arguments<R: Env + Files + Print + Eprint>(
+    rt: &R,
+    count: usize,
+    trace: &mut [u8; TRACE_ROOM],
+    text: &mut [u8; TEXT_ROOM],
+) -> Written
     ensures { FilesAnswered count result }
 {
     let mut written = output::none();
     let mut i = 1;
     while i < count {
-        written = argument(written, i, &mut *trace, &mut *text);
+        written = argument(rt, written, i, &mut *trace, &mut *text);
         if !output::all(written) {
             return written;
         }
@@ -68,11 +80,16 @@ fn arguments(count: usize, trace: &mut [u8; TRACE_ROOM], text: &mut [u8; TEXT_RO
 }
 
 // Answers every trace, in the room that it is lent.
-pub fn every(count: usize, trace: &mut [u8; TRACE_ROOM], text: &mut [u8; TEXT_ROOM]) -> Written
+pub fn every<R: Env + Files + Input + Print + Eprint>(
+    rt: &R,
+    count: usize,
+    trace: &mut [u8; TRACE_ROOM],
+    text: &mut [u8; TEXT_ROOM],
+) -> Written
     ensures { Answered count result }
 {
     if count < 2 {
-        return from_input(trace, text);
+        return from_input(rt, trace, text);
     }
-    arguments(count, trace, text)
+    arguments(rt, count, trace, text)
 }

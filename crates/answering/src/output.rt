@@ -5,7 +5,6 @@ ghost use Rattle.trace_text.specs.Text.{text_of};
 ghost use Rattle.reading.specs.Reading.{read_of};
 ghost use Rattle.answering.specs.Answers.{next, nothing, input_answered, plus_file};
 
-use libc::STDOUT_FILENO;
 use reading::{Failure, Read};
 
 // The largest number that a counter holds.
@@ -63,28 +62,34 @@ fn add_file(before: Written, done: bool) -> Written
     }
 }
 
-// Writes bytes where all before them was written; false where they are not written.
-fn put(all: bool, bytes: &[u8]) -> bool {
+// Writes bytes where all before them was written; says so where they are not written, and is then false.
+fn put<R: Print + Eprint>(rt: &R, all: bool, bytes: &[u8]) -> bool {
     if !all {
         return false;
     }
-    io::write_all(STDOUT_FILENO, bytes)
+    match rt.write_all(bytes) {
+        Ok(()) => true,
+        Err(reason) => {
+            let _ = eprintln!(rt; "standard output: {reason}");
+            false
+        }
+    }
 }
 
 // A line of a word and a path, where all before it was written; false where it is not written.
-fn line(all: bool, word: &[u8], path: &[u8]) -> bool {
-    let begun = put(all, word);
-    let named = put(begun, path);
-    put(named, b"\n")
+fn line<R: Print + Eprint>(rt: &R, all: bool, word: &[u8], path: &[u8]) -> bool {
+    let begun = put(rt, all, word);
+    let named = put(rt, begun, path);
+    put(rt, named, b"\n")
 }
 
 // Writes the text of what was read from standard input, all of it and nothing else. What was read is lent so that the requirement can name it.
-pub(crate) fn input_text(read: Read, buf: &[u8], bytes: &[u8]) -> Written
+pub(crate) fn input_text<R: Print + Eprint>(rt: &R, read: Read, buf: &[u8], bytes: &[u8]) -> Written
     requires number_value { read.number ≡ 0 }
     requires bytes_value { bytes.now ≡ text_of (read_of read buf.now) }
     ensures { result ≡ input_answered result.all }
 {
-    let done = put(true, bytes);
+    let done = put(rt, true, bytes);
     Written {
         input: done,
         files: 0,
@@ -93,11 +98,12 @@ pub(crate) fn input_text(read: Read, buf: &[u8], bytes: &[u8]) -> Written
 }
 
 // Says that standard input can't be read. No line is due for it, so none is missing.
-pub(crate) fn input_unreadable(failure: Failure) -> Written
+pub(crate) fn input_unreadable<R: Eprint>(rt: &R, failure: Failure) -> Written
     requires { failure.number ≡ 0 }
     ensures { result ≡ input_answered result.all }
 {
-    os::fail(b"standard input");
+    let reason = reading::reason(failure);
+    let _ = eprintln!(rt; "standard input: {reason}");
     Written {
         input: true,
         files: 0,
@@ -106,7 +112,8 @@ pub(crate) fn input_unreadable(failure: Failure) -> Written
 }
 
 // Writes the line that names the next file and the text of what was read from it, all of it and nothing else.
-pub(crate) fn file_text(
+pub(crate) fn file_text<R: Print + Eprint>(
+    rt: &R,
     before: Written,
     read: Read,
     name: &[u8],
@@ -119,18 +126,23 @@ pub(crate) fn file_text(
     ensures { result ≡ plus_file before result.all }
 {
     let n = reading::path(read);
-    let named = line(before.all, b"file ", &name[..n]);
-    let done = put(named, bytes);
+    let named = line(rt, before.all, b"file ", &name[..n]);
+    let done = put(rt, named, bytes);
     add_file(before, done)
 }
 
 // Writes the line that says of the next file that it can't be read.
-pub(crate) fn file_unreadable(before: Written, failure: Failure, name: &[u8]) -> Written
+pub(crate) fn file_unreadable<R: Print + Eprint>(
+    rt: &R,
+    before: Written,
+    failure: Failure,
+    name: &[u8],
+) -> Written
     requires number_value { failure.number ≡ before.files + 1 }
     requires prefix_len { IsPrefixLen failure.path name.now }
     ensures { result ≡ plus_file before result.all }
 {
     let n = reading::failed_path(failure);
-    let done = line(before.all, b"unreadable ", &name[..n]);
+    let done = line(rt, before.all, b"unreadable ", &name[..n]);
     add_file(before, done)
 }

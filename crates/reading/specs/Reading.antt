@@ -28,7 +28,7 @@ pub record Reads (number : ℕ) (read : Read) (buf : List ℕ) : Type 0 where
   pub counts : IsPrefixLen read.len buf
   pub full : read.len ≡ length buf → Settled (read_of read buf)
 
--- a trace that can't be read: which one was asked for, and an answer of the C library below zero
+-- a trace that can't be read: which one was asked for, and an answer below zero, as of a call that failed
 pub record Fails (number : ℕ) (failure : Failure) : Type 0 where
   pub asked : failure.number ≡ number
   pub below : lt_z failure.answer (pos 0) ≡ true

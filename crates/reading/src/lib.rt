@@ -1,11 +1,13 @@
 // Reading traces. What was read is told by a `Read`, and that it can't be read by a `Failure`; each tells of which argument. Only the functions here make them, so that no other function can answer for more bytes than were read or for fewer, take one file for another, or call a trace unreadable that nobody tried to read.
 #![tactic(auto)]
 
-ghost use Rattle.std.specs.Prelude.{◌≡◌};
+ghost use Rattle.std.specs.Prelude.{◌≡◌, ℕ, List};
 ghost use Rattle.io.specs.Counts.{IsPrefixLen};
 ghost use Rattle.reading.specs.Reading.{Fills, path_of};
 
-use libc::STDIN_FILENO;
+use std::env::FillError;
+use std::io::{Error, ErrorKind, Input};
+use std::rt::{Env, Files};
 use trace_look::MOST_BYTES;
 
 // One byte past the longest trace, so that a longer one is seen to be too long.
@@ -19,12 +21,13 @@ pub struct Read {
     len: usize,
 }
 
-// What could not be read: the number and the path as above, and what the C library answered.
+// What could not be read: the number and the path as above; what a call answers that fails, which is below zero; and why it failed.
 #[derive(Clone, Copy)]
 pub struct Failure {
     number: usize,
     path: usize,
     answer: isize,
+    reason: Error,
 }
 
 // What reading a whole trace comes to.
@@ -55,23 +58,43 @@ pub fn failed_path(failure: Failure) -> usize
     failure.path
 }
 
+// Why it could not be read.
+pub fn reason(failure: Failure) -> Error
+    ensures { result ≡ failure.reason }
+{
+    failure.reason
+}
+
+// What a call that fails comes to.
+fn failed(number: usize, path: usize, reason: Error) -> Filled
+    ensures path { path_of result ≡ path }
+    ensures fills { (buf : List ℕ) → Fills number result buf }
+{
+    Filled::Failed(Failure {
+        number: number,
+        path: path,
+        answer: -1,
+        reason: reason,
+    })
+}
+
 // Reads until the buffer is full or the input ends. In a full buffer the trace is too long, whatever follows in the input.
-fn fill(number: usize, path: usize, fd: i32, buf: &mut [u8; TRACE_ROOM]) -> Filled
+fn fill<R: std::io::Read>(
+    number: usize,
+    path: usize,
+    from: &mut R,
+    buf: &mut [u8; TRACE_ROOM],
+) -> Filled
     ensures result_value { path_of result ≡ path }
     ensures fills { Fills number result buf.new }
 {
     let room: &mut [u8] = buf;
     let mut at = 0;
     while at < room.len() {
-        let got = libc::read(fd, &mut room[at..]);
-        if got < 0 {
-            return Filled::Failed(Failure {
-                number: number,
-                path: path,
-                answer: got,
-            });
-        }
-        let more = io::count(got, &room[at..]);
+        let more = match from.read(&mut room[at..]) {
+            Ok(more) => more,
+            Err(reason) => return failed(number, path, reason),
+        };
         if more == 0 {
             break;
         }
@@ -85,27 +108,34 @@ fn fill(number: usize, path: usize, fd: i32, buf: &mut [u8; TRACE_ROOM]) -> Fill
 }
 
 // Reads the trace on standard input.
-pub fn standard(buf: &mut [u8; TRACE_ROOM]) -> Filled
+pub fn standard<R: Input>(rt: &R, buf: &mut [u8; TRACE_ROOM]) -> Filled
     ensures { Fills 0 result buf.new }
 {
-    fill(0, 0, STDIN_FILENO, buf)
+    fill(0, 0, &mut rt.reader(), buf)
 }
 
-// Reads the trace file that an argument names, and puts its path at the start of the other buffer.
-pub fn argument(number: usize, name: &mut [u8], buf: &mut [u8; TRACE_ROOM]) -> Filled
+// Reads the trace file that an argument names, and puts its path at the start of the other buffer. Of an argument that the buffer can't hold it puts the start there and opens no file; nor is one opened whose name is no text, since the library takes paths as text.
+pub fn argument<R: Env + Files>(
+    rt: &R,
+    number: usize,
+    name: &mut [u8],
+    buf: &mut [u8; TRACE_ROOM],
+) -> Filled
     ensures prefix_len { IsPrefixLen (path_of result) name.new }
     ensures fills { Fills number result buf.new }
 {
-    let path = os::arg(number, &mut *name);
-    let fd = os::open_read(&name[..path]);
-    if fd < 0 {
-        return Filled::Failed(Failure {
-            number: number,
-            path: path,
-            answer: fd as isize,
-        });
+    let path = match rt.arg(number, &mut *name) {
+        Ok(path) => path,
+        Err(FillError::TooLong) => {
+            return failed(number, name.len(), Error::from(ErrorKind::InvalidFilename));
+        }
+        Err(FillError::NotPresent) => return failed(number, 0, Error::from(ErrorKind::NotFound)),
+    };
+    let Ok(text) = str::from_utf8(&name[..path]) else {
+        return failed(number, path, Error::from(ErrorKind::InvalidFilename));
+    };
+    match std::fs::open(rt, text) {
+        Ok(mut file) => fill(number, path, &mut file, buf),
+        Err(reason) => failed(number, path, reason),
     }
-    let filled = fill(number, path, fd, buf);
-    libc::close(fd);
-    filled
 }
