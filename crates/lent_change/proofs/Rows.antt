@@ -5,7 +5,7 @@ use mathlib.Core.Bool.{cond}
 use mathlib.Core.List.{List}
 use Prim.Native.Nat.{ℕ}
 use lib.Dec.{ltb}
-use lib.ListN.{length, set}
+use lib.ListN.{length}
 use Rattle.folds.specs.Folds.{firsts}
 use Rattle.folds.proofs.Folds.{firsts_same, firsts_all}
 use Rattle.sets.proofs.Sets.{has_none}

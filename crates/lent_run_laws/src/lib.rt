@@ -1,3 +1,2 @@
 // Theorems only: going on with tables that were checked is the checked step, and a run of it the checked run.
 #![tactic(auto)]
-

@@ -13,7 +13,6 @@ use Rattle.folds.proofs.Folds.{and_left, and_right}
 use Rattle.steps.specs.declared.Op.{Op}
 use Rattle.steps.specs.declared.Op.TheVariants as op
 use Rattle.steps.specs.declared.Step.{Step}
-use Rattle.object.specs.declared.Object.{Object}
 use Rattle.object.specs.Row.{most, last_phase}
 use Rattle.object.specs.Soundness.{expected_sound, pending_sound, tx_sound, phase_sound, seen_sound, live_sound}
 use Rattle.block.specs.declared.Block.{Block}

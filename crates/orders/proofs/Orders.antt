@@ -10,7 +10,7 @@ use Rattle.steps.specs.declared.Step.{Step}
 use Rattle.block.specs.declared.Block.{Block}
 use Rattle.tables.specs.Tables.{Tables, sound_tables, counted}
 use Rattle.tables.specs.Effect.{State, next, after, run}
-use Rattle.orders.specs.Due.{object_at, Share, brings, total, counts, drops, expectations, completions, each, on, takes_part, at_least_one, ready, from_ready, Due}
+use Rattle.orders.specs.Due.{object_at, Share, brings, total, each, on, takes_part, at_least_one, ready, from_ready, Due}
 use Rattle.orders.specs.Finishes.{ended, with_row, finished, step_on, Finishes}
 use Rattle.orders.specs.Orders.{EveryOrder, SameEnd, SoundThroughout, Tested, end, step, test, TestsAside}
 use Rattle.orders.proofs.Step.{Address}

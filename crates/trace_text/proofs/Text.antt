@@ -19,7 +19,7 @@ use Rattle.tables.specs.Tables.{tallied, fresh_tally}
 use Rattle.lines.specs.Lines.{most_line, line_of, end_of}
 use Rattle.lines.proofs.Lines.{line_most, end_most}
 use Rattle.trace_text.specs.Run.{run_of}
-use Rattle.trace_text.specs.Text.{most_bytes, trace_refusal, number_in, lines_of, end_in, last_of, run_lines, refused_lines, text_lines, joined, text_of, Numbered, numbered_of, stop_of, end_tally, run_numbered, numbered_lines, tally_of}
+use Rattle.trace_text.specs.Text.{most_bytes, trace_refusal, number_in, lines_of, end_in, last_of, run_lines, refused_lines, text_lines, joined, text_of, numbered_of, stop_of, end_tally, run_numbered, numbered_lines, tally_of}
 use Rattle.trace_text.specs.Laws.{printed}
 
 -- ---- a trace that is refused before its steps, and one that is not

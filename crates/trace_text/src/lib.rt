@@ -1,7 +1,6 @@
 // The text of a whole trace and what holds of it: definitions and theorems, and the numbers that a text tells.
 #![tactic(auto)]
 
-
 // The first `N no R` line of a text: its N and its R; both 0 where there is none.
 #[derive(Clone, Copy)]
 pub struct First {

@@ -1,6 +1,5 @@
 -- `digits::glyph` meets its contract.
 -- Assumes nothing.
-use borrow.Author.Rules.{rules}
 use borrow.Author.Tests.{lt-ltb, le-ltb}
 use Rattle.digits.proofs.glyph.Goals as goal
 

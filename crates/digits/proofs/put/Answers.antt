@@ -1,7 +1,7 @@
 -- `digits::put` meets its contract: where the bytes fit, they are stored one by one, and else nothing is.
 -- The invariant: what is left to store, stored, gives what all of it gives.
 -- Assumes nothing.
-use Prim.Native.Nat.{ℕ, suc, ◌+◌, ◌-◌, ◌≤◌, ◌<◌}
+use Prim.Native.Nat.{ℕ, suc, ◌+◌, ◌<◌}
 use mathlib.Core.Path.{◌≡◌, refl, ◌∙◌}
 use mathlib.Core.List.{List}
 use native.Mathlib.Omega.{arith}
@@ -10,7 +10,6 @@ use native.Mathlib.Numerals.{add-one}
 use lib.ListN.{length, drop, get_or, set, length-set, drop_of_length-le}
 use lib.Seq.{sets, drop-cons}
 use Rattle.fields.proofs.Num.{laid_fits, laid_short}
-use borrow.Author.Rules.{rules}
 use Rattle.digits.proofs.put.Goals as goal
 
 -- a turn stores the first byte of what is left

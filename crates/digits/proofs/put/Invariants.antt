@@ -1,16 +1,10 @@
 -- `digits::put` meets its contract: where the bytes fit, they are stored one by one, and else nothing is.
 -- The invariant: what is left to store, stored, gives what all of it gives.
 -- Assumes nothing.
-use Prim.Native.Nat.{ℕ, suc, ◌+◌, ◌-◌, ◌≤◌, ◌<◌}
-use mathlib.Core.Path.{◌≡◌, refl, ◌∙◌}
-use mathlib.Core.List.{List}
-use native.Mathlib.Omega.{arith}
-use native.Mathlib.Nat.{add-zero}
-use native.Mathlib.Numerals.{add-one}
-use lib.ListN.{length, drop, get_or, set, length-set, drop_of_length-le}
-use lib.Seq.{sets, drop-cons}
-use Rattle.fields.proofs.Num.{laid_fits, laid_short}
-use borrow.Author.Rules.{rules}
+use Prim.Native.Nat.{◌+◌, ◌-◌, ◌≤◌}
+use mathlib.Core.Path.{◌≡◌}
+use lib.ListN.{length, drop}
+use lib.Seq.{sets}
 use Rattle.digits.proofs.put.Given as goal
 
 abbrev pub invariant-loop-i : goal.invariant-loop-i

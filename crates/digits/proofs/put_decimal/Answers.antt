@@ -1,7 +1,6 @@
 -- `digits::put_decimal` meets its contract: the digits that are spelled are the number's.
 -- Assumes nothing.
 use mathlib.Core.Path.{sym, ap, ◌∙◌}
-use borrow.Author.Rules.{rules}
 use Rattle.fields.specs.Num.{laid}
 use Rattle.digits.proofs.Digits.{one_place, spelled, length_decimal}
 use Rattle.digits.proofs.put_decimal.Goals as goal

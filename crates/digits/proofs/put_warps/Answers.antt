@@ -2,7 +2,6 @@
 -- Assumes nothing.
 use mathlib.Core.Path.{sym, ap, ◌∙◌}
 use Prim.Native.Nat.{ℕ}
-use borrow.Author.Rules.{rules}
 use Rattle.fields.specs.Num.{laid}
 use Rattle.digits.specs.Digits.{warps}
 use Rattle.digits.proofs.put_warps.Goals as goal

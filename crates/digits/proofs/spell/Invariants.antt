@@ -1,16 +1,11 @@
 -- `digits::spell` meets its contract: where the digits fit, they are stored one by one from the last on, and else nothing is.
 -- The invariant: what is left to store, stored, gives what all of it gives.
 -- Assumes nothing.
-use mathlib.Core.Path.{◌≡◌, refl, subst, ◌∙◌}
-use Prim.Native.Nat.{ℕ, ◌+◌, ◌≤◌}
-use native.Mathlib.Omega.{arith}
-use native.Mathlib.Nat.{mod-lt}
-use borrow.Author.Rules.{rules}
-use lib.ListN.{length, length-set}
+use mathlib.Core.Path.{◌≡◌}
+use Prim.Native.Nat.{◌+◌, ◌≤◌}
+use lib.ListN.{length}
 use lib.Seq.{sets}
-use Rattle.fields.proofs.Num.{laid_fits, laid_short}
 use Rattle.io.specs.Digits.{last_digits}
-use Rattle.digits.proofs.Digits.{length_digits, digit_stored}
 use Rattle.digits.proofs.spell.Given as goal
 
 abbrev pub invariant-loop-i : goal.invariant-loop-i

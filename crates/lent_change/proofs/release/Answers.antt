@@ -1,5 +1,5 @@
 -- An empty set releases none; else one row more is released each turn, and past the last row all are.
-use Rattle.std.proofs.Common.{◌≡◌, ◌<◌, sym, ap, ◌∙◌, subst, arith, length, get_or, set}
+use Rattle.std.proofs.Common.{◌≡◌, sym, ap, ◌∙◌, arith, length}
 use Rattle.folds.proofs.Folds.{firsts_none, firsts_next}
 use Rattle.block.specs.Tables.{fresh_warp}
 use Rattle.lent_change.proofs.Rows.{released_row, released_to, released_all, none_released}

@@ -1,6 +1,5 @@
 -- `lent_fresh::fresh_turn` meets its contract.
 -- Assumes nothing.
-use borrow.Author.Rules.{rules}
 use borrow.Author.Tests.{ne_eqb}
 use Rattle.lent_fresh.proofs.fresh_turn.Goals as goal
 

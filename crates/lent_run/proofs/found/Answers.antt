@@ -1,6 +1,3 @@
-use mathlib.Core.Bool.{◌&&◌}
-use borrow.Author.Rules.{rules}
-use borrow.Author.Tests.{not-true, not-false}
 use Rattle.lent_run.proofs.found.Goals as goal
 
 pub returns-then-not-sound-fine-clause-known : goal.returns-then-not-sound-fine-clause-known

@@ -1,6 +1,5 @@
 use mathlib.Core.Path.{ap, ◌∙◌}
 use mathlib.Core.Bool.{true}
-use borrow.Author.Rules.{rules}
 use Rattle.lent_run.specs.Run.{known}
 use Rattle.lent_run.proofs.Fresh.{fresh_unsound, fresh_sound}
 use Rattle.lent_run.proofs.fresh_checked.Goals as goal

@@ -1,5 +1,5 @@
 -- A wrong length and the first row that is not sound end the check; else each turn has one sound row more.
-use Rattle.std.proofs.Common.{◌≡◌, ℕ, ◌<◌, List, length, get_or, refl, sym, ◌∙◌, arith, eq-eqb, ne_eqb}
+use Rattle.std.proofs.Common.{◌≡◌, ℕ, ◌<◌, List, length, get_or, refl, sym, ◌∙◌, arith, eq-eqb}
 use Rattle.std.specs.Prelude.{Bool, true, false, ◌&&◌, eqb}
 use Rattle.folds.specs.Folds.{all}
 use Rattle.folds.proofs.Folds.{all_none, all_more, all_fails, all_end}

@@ -1,7 +1,6 @@
 -- `owned::fresh_owned` meets its contract.
 -- Assumes nothing.
 use mathlib.Core.Path.{◌∙◌}
-use borrow.Author.Rules.{rules}
 use Rattle.owned.proofs.fresh_owned.Goals as goal
 
 pub returns : goal.returns

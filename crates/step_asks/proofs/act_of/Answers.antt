@@ -1,7 +1,6 @@
 -- `step_asks::act_of` meets its contract, case by case.
 -- Assumes nothing.
 use mathlib.Core.Path.{refl}
-use borrow.Author.Rules.{rules}
 use Rattle.step_asks.proofs.act_of.Goals as goal
 
 pub returns-in-Init : goal.returns-in-Init

@@ -1,6 +1,5 @@
 -- `step_asks::call_of` meets its contract, case by case.
 -- Assumes nothing.
-use borrow.Author.Rules.{rules}
 use Rattle.step_asks.proofs.call_of.Goals as goal
 
 pub returns-in-SyncAll : goal.returns-in-SyncAll

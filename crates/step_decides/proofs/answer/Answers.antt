@@ -1,6 +1,5 @@
 -- `step_decides::answer` meets its contract, case by case.
 -- Assumes nothing.
-use borrow.Author.Rules.{rules}
 use Rattle.step_decides.proofs.answer.Goals as goal
 
 pub returns-in-Refused : goal.returns-in-Refused

@@ -2,7 +2,6 @@
 -- Assumes nothing.
 use mathlib.Core.Path.{◌∙◌}
 use Rattle.step_decides.proofs.Decides.{decided_unsound, decided_no_warp, decided_kind}
-use borrow.Author.Rules.{rules}
 use Rattle.step_decides.proofs.decide.Goals as goal
 
 pub returns-then-not-seen : goal.returns-then-not-seen

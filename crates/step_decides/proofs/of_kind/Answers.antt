@@ -2,7 +2,6 @@
 -- Assumes nothing.
 use mathlib.Core.Path.{◌∙◌}
 use Rattle.step_decides.proofs.Decides.{kind_exit, kind_barrier, kind_object, kind_pending}
-use borrow.Author.Rules.{rules}
 use Rattle.step_decides.proofs.of_kind.Goals as goal
 
 pub returns-in-Exit : goal.returns-in-Exit

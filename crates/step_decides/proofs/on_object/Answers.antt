@@ -6,7 +6,6 @@ use Rattle.object.specs.Row.{step_row}
 use Rattle.tables.proofs.Chains.{place_below}
 use Rattle.step_decides.specs.Decides.{answering}
 use Rattle.step_decides.proofs.Decides.{object_off_place, object_on_place}
-use borrow.Author.Rules.{rules}
 use Rattle.step_decides.proofs.on_object.Goals as goal
 
 pub returns-then-a : goal.returns-then-a

@@ -6,7 +6,6 @@ use Rattle.block.specs.declared.Verdict.TheVariants.{Accepted}
 use Rattle.block_steps.specs.declared.Change.{Change}
 use Rattle.step_decides.specs.declared.Decided.{Decided}
 use Rattle.step_decides.proofs.Decides.{pending_counts}
-use borrow.Author.Rules.{rules}
 use Rattle.step_decides.proofs.pending.Goals as goal
 
 pub returns-in-NoToken : goal.returns-in-NoToken

@@ -1,6 +1,5 @@
 -- `tables::add` meets its contract, case by case.
 -- Assumes nothing.
-use borrow.Author.Rules.{rules}
 use Rattle.tables.proofs.add.Goals as goal
 
 pub returns-in-Refused : goal.returns-in-Refused

@@ -1,7 +1,6 @@
 -- `tables::one_more` meets its contract.
 -- Assumes nothing.
 use borrow.Author.Tests.{eq-eqb, ne_eqb}
-use borrow.Author.Rules.{rules}
 use Rattle.tables.proofs.one_more.Goals as goal
 
 pub returns-then-n-eq-LARGEST : goal.returns-then-n-eq-LARGEST

@@ -1,7 +1,6 @@
 -- `tables::slot_of` meets its contract, case by case.
 -- Assumes nothing.
 use mathlib.Core.Path.{refl}
-use borrow.Author.Rules.{rules}
 use Rattle.tables.proofs.slot_of.Goals as goal
 
 pub returns-in-Object : goal.returns-in-Object

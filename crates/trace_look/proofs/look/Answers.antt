@@ -1,7 +1,6 @@
 -- `trace_look::look` meets its contract, case by case.
 -- Assumes nothing.
 use mathlib.Core.Path.{sym, ◌∙◌}
-use borrow.Author.Rules.{rules}
 use Rattle.trace_look.proofs.Places.{look_end, look_stop, look_step}
 use Rattle.trace_look.proofs.look.Goals as goal
 

@@ -1,6 +1,5 @@
 -- `trace_look::trace_refusal` meets its contract: at each return the tests that led there say which line holds.
 -- Assumes nothing.
-use borrow.Author.Rules.{rules}
 use borrow.Author.Tests.{lt-ltb, le-ltb, eq-eqb, ne_eqb}
 use lib.ListN.{length}
 use Rattle.folds.specs.Folds.{lowest}
