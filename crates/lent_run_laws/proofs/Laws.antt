@@ -90,7 +90,8 @@ module _ (x : State) (c : Checked) (s : Step) (shaped : Shaped x.tables.block) w
           live = λ h. absurd (false≢true (sym e ∙ ap sound_tables (sym (stay e)) ∙ h));
         }
 
-    next_shaped : Shaped (next x s).tables.block
+    -- sound tables or not, the block keeps its shape
+    pub next_shaped : Shaped (next x s).tables.block
     next_shaped = go (sound_tables t) refl
       where
         go : (z : Bool) → sound_tables t ≡ z → Shaped (after t s).block

@@ -1,33 +1,22 @@
 -- `text_turns::lay_last` meets its contract: with the line of a 1 or 2 and without it.
 -- Assumes nothing.
-use Prim.Native.Nat.{◌+◌, ◌<◌}
-use native.Mathlib.Omega.{arith}
-use borrow.Author.Rules.{rules}
+use Rattle.std.proofs.Common.{arith}
 use Rattle.block.specs.declared.Verdict.TheVariants.{Refused}
 use Rattle.lines.proofs.Lines.{line_most, end_most}
 use Rattle.text_turns.proofs.Buffer.{last_end, last_stop}
-use Rattle.text_turns.proofs.lay_last.Goals.{After-put_line}
 use Rattle.text_turns.proofs.lay_last.Goals as goal
 
-abbrev start : After-put_line → tie.Start
-start p = p
-
--- the line is no longer than the longest
-line_fits : (p : After-put_line) → (start p).args.l.at + p.put_line.result + 56 < 18446744073709551616
-line_fits p =
-    let s = start p in
-    omega (arith, p.put_line.ensures.0, line_most p.number_in-number.result (Refused s.args.l.stop), s.pre)
-
 pub overflow_add-at : goal.overflow_add-at
-overflow_add-at c = omega (arith, line_fits c)
+overflow_add-at c = omega (arith, c.put_line.ensures.0, line_most c.number_in-number.result (Refused c.args.l.stop), c.requires)
 
 pub overflow_add-length : goal.overflow_add-length
 overflow_add-length c =
-    omega (arith, c.put_end.ensures.0, end_most c.add-all.result.accepted c.add-all.result.refused, line_fits c)
+    omega (arith, c.put_end.ensures.0, end_most c.add-all.result.accepted c.add-all.result.refused,
+    c.put_line.ensures.0, line_most c.number_in-number.result (Refused c.args.l.stop), c.requires)
 
 pub returns-then-l-ne0 : goal.returns-then-l-ne0
 returns-then-l-ne0 c =
-    let a = (start c).args in
+    let a = c.args in
     last_stop a.out.now a.l a.lines c.if-l-ne0.true c.number_in-number.result c.put_line.result c.put_end.result c.add-all.result c.first_after.result c.sum_up.result
     c.put_line.new.out c.put_end.new.out c.number_in-number.ensures c.put_line.ensures.0 c.put_line.ensures.1 c.add-all.ensures c.first_after.ensures c.put_end.ensures.0 c.sum_up.ensures c.put_end.ensures.1
 

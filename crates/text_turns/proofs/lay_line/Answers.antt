@@ -6,11 +6,8 @@ use borrow.Author.Rules.{rules}
 use Rattle.lines.proofs.Lines.{line_most}
 use Rattle.text_turns.proofs.lay_line.Goals as goal
 
--- GONE add-t13
--- add-t13 c =
---     let p = c.before.before in
---     let s = p.before.before.before.before.before.before in
---     omega (arith, p.put-line.ensures.0, line_most s.args.number s.args.v, s.requires)
+pub overflow_add-result : goal.overflow_add-result
+overflow_add-result c = omega (arith, c.put_line.ensures.0, line_most c.args.number c.args.v, c.requires)
 
 pub returns : goal.returns
 returns c =
