@@ -15,20 +15,20 @@ use Rattle.whole_text.proofs.lay_whole.Goals as goal
 
 pub slice_bounds-lay-end : goal.slice_bounds-lay-end
 slice_bounds-lay-end c =
-    let a = c.before.args{-!!before-} in
-    sym (length-take-le _ _ (omega (arith, c.held.ensures{-!!held-}, length-take a.read.len a.buf.now)))
+    let a = c.args in
+    sym (length-take-le _ _ (omega (arith, c.held-n.ensures, length-take a.read.len a.buf.now)))
 
 pub returns-in-Length : goal.returns-in-Length
 returns-in-Length c =
-    let a = c.before.args{-!!before-} in
-    let s = take c.held.result{-!!held-} a.buf.now in
+    let a = c.args in
+    let s = take c.held-n.result a.buf.now in
     let before = a.text.now in
-    let whole = ap (λ (n : ℕ). take n a.buf.now) c.held.ensures{-!!held-} ∙ take_held a.read.len a.buf.now in
+    let whole = ap (λ (n : ℕ). take n a.buf.now) c.held-n.ensures ∙ take_held a.read.len a.buf.now in
     subst (λ (t : List ℕ). LaysWhole t before c.in-Length.length c.lay-laid.new.out) whole
     (lays_whole s before (omega arith) _ _ (sym c.in-Length.is ∙ c.lay-laid.ensures.0)
     (c.lay-laid.ensures.1 ∙ laid_start (text_of s) before (text_fits s before (omega arith))))
 
 pub returns-in-Short : goal.returns-in-Short
 returns-in-Short c =
-    let a = c.before.args{-!!before-} in
-    absurd (never_short (take c.held.result{-!!held-} a.buf.now) a.text.now (omega arith) (sym c.in-Short.is ∙ c.lay-laid.ensures.0))
+    let a = c.args in
+    absurd (never_short (take c.held-n.result a.buf.now) a.text.now (omega arith) (sym c.in-Short.is ∙ c.lay-laid.ensures.0))
