@@ -1,8 +1,7 @@
 -- `text::lay` meets its contract: the text is laid where it fits.
 -- Assumes nothing.
 use mathlib.Core.Path.{sym, ◌∙◌}
-use borrow.Author.Rules.{rules}
-use borrow.Author.Tests.{not-true, not-false, leb-true}
+use borrow.Author.Tests.{leb-true}
 use lib.ListN.{length}
 use Rattle.trace_text.specs.Text.{text_of}
 use Rattle.text_turns.proofs.Buffer.{text_fits}

@@ -1,6 +1,5 @@
 -- `text_turns::first_after` meets its contract: by the verdict, and whether a line stands already.
 -- Assumes nothing.
-use borrow.Author.Rules.{rules}
 use borrow.Author.Tests.{eq-eqb, ne_eqb}
 use Rattle.text_turns.proofs.first_after.Goals as goal
 

@@ -11,8 +11,14 @@ overflow_add-at c = omega (arith, c.put_line.ensures.0, line_most c.number_in-nu
 
 pub overflow_add-length : goal.overflow_add-length
 overflow_add-length c =
-    omega (arith, c.put_end.ensures.0, end_most c.add-all.result.accepted c.add-all.result.refused,
-    c.put_line.ensures.0, line_most c.number_in-number.result (Refused c.args.l.stop), c.requires)
+    omega (
+      arith,
+      c.put_end.ensures.0,
+      end_most c.add-all.result.accepted c.add-all.result.refused,
+      c.put_line.ensures.0,
+      line_most c.number_in-number.result (Refused c.args.l.stop),
+      c.requires,
+    )
 
 pub returns-then-l-ne0 : goal.returns-then-l-ne0
 returns-then-l-ne0 c =

@@ -5,7 +5,6 @@ use mathlib.Core.List.{List}
 use Prim.Native.Nat.{ℕ, ◌+◌}
 use lib.ListN.{length}
 use native.Mathlib.Omega.{arith}
-use borrow.Author.Rules.{rules}
 use Rattle.block.specs.declared.Verdict.TheVariants.{Refused}
 use Rattle.lines.specs.Lines.{line_of, end_of}
 use Rattle.trace_text.specs.Text.{trace_refusal, refused_lines, text_lines, text_of, tally_of, first_refused, counts_in}

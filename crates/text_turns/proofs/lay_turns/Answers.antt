@@ -1,5 +1,5 @@
 -- Each turn lays the first line of what is left, and going on with what is known is the checked step; at the end what follows the last step is laid.
-use Rattle.std.proofs.Common.{◌≡◌, ℕ, ◌-◌, ◌<◌, List, length, sym, ap, subst, arith, rules}
+use Rattle.std.proofs.Common.{◌≡◌, ℕ, List, sym, ap, subst, arith, rules}
 use Rattle.std.proofs.lemmas.Bool.{not-true, not-false}
 use Rattle.std.specs.Prelude.{true}
 use Rattle.object.specs.declared.Object.{Object}
@@ -52,14 +52,21 @@ loop-l-init c = record {
 pub lay_line-laid-requires : goal.lay_line-laid-requires
 lay_line-laid-requires c =
     let l = c.loop-l in
-    omega (arith, ap (λ (m : Laying). m.at) c.look-l.ensures,
-    lines_fit c.args.trace.now (state_of l.block l.objects l.tally) l.l c.args.out.now l.out l.invariant.left)
+    omega (
+      arith,
+      ap (λ (m : Laying). m.at) c.look-l.ensures,
+      lines_fit c.args.trace.now (state_of l.block l.objects l.tally) l.l c.args.out.now l.out l.invariant.left,
+    )
 
 pub loop-l-smaller : goal.loop-l-smaller
 loop-l-smaller c =
     let l = c.loop-l in
-    omega (arith, ap (λ (m : Laying). m.cursor.at) c.lay_line-laid.ensures.0, ap (λ (m : Laying). m.cursor.at) c.look-l.ensures,
-    turn_less c.args.trace.now (state_of l.block l.objects l.tally) l.l (rw (sym c.look-l.ensures) (not-false _ c.if-not-l.false)))
+    omega (
+      arith,
+      ap (λ (m : Laying). m.cursor.at) c.lay_line-laid.ensures.0,
+      ap (λ (m : Laying). m.cursor.at) c.look-l.ensures,
+      turn_less c.args.trace.now (state_of l.block l.objects l.tally) l.l (rw (sym c.look-l.ensures) (not-false _ c.if-not-l.false)),
+    )
 
 pub loop-l-preserved : goal.loop-l-preserved
 loop-l-preserved c =
@@ -72,8 +79,11 @@ loop-l-preserved c =
 pub lay_last-requires : goal.lay_last-requires
 lay_last-requires c =
     let l = c.loop-l in
-    omega (arith, ap (λ (m : Laying). m.at) c.look-l.ensures,
-    lines_fit c.args.trace.now (state_of l.block l.objects l.tally) l.l c.args.out.now l.out l.invariant.left)
+    omega (
+      arith,
+      ap (λ (m : Laying). m.at) c.look-l.ensures,
+      lines_fit c.args.trace.now (state_of l.block l.objects l.tally) l.l c.args.out.now l.out l.invariant.left,
+    )
 
 pub returns : goal.returns
 returns c =

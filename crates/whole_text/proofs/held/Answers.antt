@@ -1,7 +1,6 @@
 -- `whole_text::held` meets its contract: so many bytes are taken as were read, or as there are.
 -- Assumes nothing.
 use native.Mathlib.Omega.{arith}
-use borrow.Author.Rules.{rules}
 use lib.ListN.{length-take}
 use Rattle.whole_text.proofs.held.Goals as goal
 
