@@ -57,7 +57,7 @@ digit_stored out l at (suc j) b rest h e =
 
 -- a number below ten takes one digit
 pub one_place : (n : ℕ) → n < 10 → 1 ≡ places n
-one_place n less = sym (ap (λ (k : ℕ). 1 + k) (first_found (λ k. ltb n (10 ^ (k + 1))) 0 19 (omega arith) (first_of_none (λ k. ltb n (10 ^ (k + 1)))) (lt-ltb n 10 less)))
+one_place n less = sym (ap (λ (k : ℕ). 1 + k) (first_found (λ k. ltb n (10 ^ (k + 1))) 0 _ (omega arith) (first_of_none (λ k. ltb n (10 ^ (k + 1)))) (lt-ltb n 10 less)))
 
 -- as many digits as it takes are a number's decimal text
 pub spelled : (n k : ℕ) → k ≡ places n → last_digits 10 k n ≡ decimal n
@@ -70,7 +70,10 @@ length_decimal n = length_digits 10 (places n) n
 
 -- 20 at most
 pub decimal_most : (n : ℕ) → length (decimal n) ≤ 20
-decimal_most n = omega (arith, length_decimal n, first_most (λ k. ltb n (10 ^ (k + 1))) 19)
+decimal_most n = rw (length_decimal n) (more _ _ (first_most _ _) (omega arith))
+  where
+    more : (a b : ℕ) → a ≤ b → b ≤ 19 → 1 + a ≤ 20
+    more a b h k = omega arith
 
 pub length_warps : (m : ℕ) → length (warps m) ≡ 8
 length_warps m = length_digits 16 8 m

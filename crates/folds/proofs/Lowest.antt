@@ -20,7 +20,7 @@ never p q = let z : ◌≡◌ {A = ℕ} 0 1 = cc in absurd (omega arith)
 module _ (k : ℕ) (t : Bool) (n : ℕ) (rs : List Line) (h : ascending k ((t, n) ∷ rs) ≡ true) where
   first_above : k < n
   unfolding ascending
-  first_above = ltb-true k n (and_left (ltb k n) (ascending n rs) h)
+  first_above = ltb-true k n (and_left (ltb k n) _ h)
 
   rest_above : ascending n rs ≡ true
   unfolding ascending

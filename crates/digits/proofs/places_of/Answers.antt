@@ -20,6 +20,15 @@ above n k power e l = subst (λ (m : ℕ). ltb n m ≡ false) e (le-ltb n power 
 ten_times : (k : ℕ) → 10 ^ (k + 1) * 10 ≡ 10 ^ (k + 1 + 1)
 ten_times k = rw (add-one (k + 1)) (sym (pow-suc 10 (k + 1)))
 
+pub returns-else-n-power-2 : goal.returns-else-n-power-2
+returns-else-n-power-2 c =
+    let l = c.loop-k in
+    let n = c.args.n in
+    let end : l.k ≡ 18 = le_antisymm l.invariant.0 c.loop-k-test.false in
+    let none = first_none (held n) l.k l.invariant.2 (above n l.k l.power l.invariant.1 c.if-n-power-2.false) in
+    let all : first 19 (held n) ≡ 19 = subst (λ (m : ℕ). first (m + 1) (held n) ≡ m + 1) end none in
+    omega (arith, all)
+
 pub loop-k-init : goal.loop-k-init
 unfolding first
 loop-k-init c = (omega arith, refl, refl)
@@ -57,12 +66,3 @@ returns-then-n-power-2 c =
     let n = c.args.n in
     let found = first_found (held n) l.k 19 (omega (arith, l.invariant.0)) l.invariant.2 (below n l.k l.power l.invariant.1 c.if-n-power-2.true) in
     omega (arith, found, l.invariant.0, c.loop-k-test.false)
-
-pub returns-else-n-power-2 : goal.returns-else-n-power-2
-returns-else-n-power-2 c =
-    let l = c.loop-k in
-    let n = c.args.n in
-    let end : l.k ≡ 18 = le_antisymm l.invariant.0 c.loop-k-test.false in
-    let none = first_none (held n) l.k l.invariant.2 (above n l.k l.power l.invariant.1 c.if-n-power-2.false) in
-    let all : first 19 (held n) ≡ 19 = subst (λ (m : ℕ). first (m + 1) (held n) ≡ m + 1) end none in
-    omega (arith, all)

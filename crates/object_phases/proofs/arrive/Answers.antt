@@ -2,6 +2,7 @@
 -- Assumes nothing.
 use lib.IntN.{pos, ◌+ℤ◌}
 use mathlib.Core.Path.{refl, sym, ◌∙◌}
+use borrow.Author.Rules.{rules}
 use Rattle.object.proofs.Row.{line_12, line_14, line_15, line_16, settles}
 use Rattle.object_phases.proofs.Tx.{went_out, stayed_in}
 use Rattle.object_phases.proofs.arrive.Goals as goal
@@ -21,7 +22,7 @@ returns-in_default c =
 pub returns-then-not-o-2 : goal.returns-then-not-o-2
 returns-then-not-o-2 c =
     line_16 _ _ _ c.if-not-o.false refl (sym c.bad_arrival.ensures ∙ c.if-bad_arrival.false)
-    (stayed_in c.args.o (c.args.o.tx +ℤ pos c.args.expects) _ c.raised.ensures _ c.in-To.is).0 c.if-not-o-2.true
+    (stayed_in c.args.o (c.args.o.tx +ℤ pos c.args.expects) _ c.raised.ensures _ c.in-To.is).0 (search rules)
 
 pub arrives-next-requires : goal.arrives-next-requires
 arrives-next-requires c =
