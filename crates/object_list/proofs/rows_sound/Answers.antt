@@ -34,5 +34,5 @@ loop-i-preserved c = record { in_range = omega arith; sound = all_more _ _ c.loo
 
 pub returns : goal.returns
 returns c =
-    every_row c.args.objects.now c.if-objects-ne-SLOTS.false
+    every_row c.args.objects.now (omega arith)
     (all_end (sound_at c.args.objects.now) slots c.loop-i.i c.loop-i.invariant.in_range c.loop-i-test.false c.loop-i.invariant.sound)
