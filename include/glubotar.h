@@ -17,11 +17,11 @@
  * length says. The functions keep nothing between calls and may be called from any
  * thread.
  *
- * `rt staticlib glubotar_c` proves them and writes target/staticlib/libglubotar_c.a,
- * for x86-64 only. From the repository, or where Glubotar is installed (a prefix that
+ * `rt lib` in crates/glubotar_c proves them and writes out/libglubotar_c.a there, for
+ * x86-64 only. From the repository, or where Glubotar is installed (a prefix that
  * pkg-config doesn't know goes into PKG_CONFIG_PATH, as PREFIX/lib/pkgconfig):
  *
- *     cc -O2 -Iinclude main.c target/staticlib/libglubotar_c.a
+ *     cc -O2 -Iinclude main.c crates/glubotar_c/out/libglubotar_c.a
  *     cc -O2 main.c $(pkg-config --cflags --libs glubotar)
  */
 #ifndef GLUBOTAR_H

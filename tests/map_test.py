@@ -15,7 +15,7 @@ mid: low io
 end: low mid io os
 side: low
 # the top
-top: low mid end side os
+top staticlib: low mid end side os
 """
 
 DRAWN = """```mermaid
@@ -63,7 +63,8 @@ class Drawing(Tree):
 
     def test_a_circle_and_a_bad_line_are_named(self) -> None:
         for crates, said in (("a: b\nb: a\n", "a is below itself"), ("a:\na:\n", "crates.txt:2:"),
-                             ("a\n", "crates.txt:1:")):
+                             ("a\n", "crates.txt:1:"), (":\n", "crates.txt:1:"),
+                             ("a library: b\n", "crates.txt:1:"), ("a:\na staticlib:\n", "crates.txt:2:")):
             self.put("", crates)
             made = self.run_tool()
             self.assertEqual((made.returncode, made.stdout), (1, ""))

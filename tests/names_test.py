@@ -11,7 +11,7 @@ PROOFS = "crates/low/proofs/Rows.antt"
 
 # A small project: two crates with code, definitions, laws and an edit.
 TREE = {
-    "crates.txt": "# ground\nlow: io\n# above\nhigh_up: low\n",
+    "crates.txt": "# ground\nlow: io\n# above\nhigh_up: low\nfor_c staticlib: low\n",
     "README.md": "# Fake\n",
     "docs/STATEMENTS.md": "# Statements\n",
     "docs/requests/W-1.md": "`gone` and `Gone`\n",
@@ -47,8 +47,8 @@ fn hidden(o: Row) -> bool
     true
 }
 
-#[no_mangle]
-pub extern "C" fn for_c(len: usize) -> usize
+#[unsafe(no_mangle)]
+pub extern "C" fn length_for_c(len: usize) -> usize
 {
     len
 }
@@ -56,7 +56,7 @@ pub extern "C" fn for_c(len: usize) -> usize
     "crates/low/src/table.rt": "pub(crate) fn length_of(kind: u8) -> usize\n{\n    0\n}\n",
     "crates/low/specs/Lib.antt": "pub mod Rows\n",
     "crates/low/specs/Rows.antt": """-- Rows.
-use mathlib.Core.Path.{_≡_}
+use Rattle.std.specs.Prelude.{◌≡◌, ℕ, Bool}
 
 -- data: a definition takes it
 pub record State : Type 0 where
@@ -66,8 +66,8 @@ pub record State : Type 0 where
 abbrev pub Line : Type 0
 Line = Bool × ℕ
 
-unfoldable pub soundRow : State → Line
-soundRow x = (true, 0)
+unfoldable pub sound_row : State → Line
+sound_row x = (true, 0)
 
 -- with parameters
 pub record Due (x : State) (n : ℕ) : Type 0 where
@@ -80,24 +80,33 @@ Fits x = x .tally ≡ 0
 -- a claim
 abbrev pub RefusedExactly : Type 0
 RefusedExactly =
-    (x : State) → soundRow x ≡ (true, 0)
+    (x : State) → sound_row x ≡ (true, 0)
 
 -- a claim that is a record
 pub record Example1 : Type 0 where
   pub first : RefusedExactly
 """,
     PROOFS: """-- Proofs.
-use Rattle·low·specs.specs.Rows as S
+use Rattle.low.specs.Rows as S
 
 mod Inner (x : State) where
-  inner-fact : soundRow x ≡ (true, 0)
-  inner-fact = refl
+  inner_fact : sound_row x ≡ (true, 0)
+  inner_fact = refl
 
-pub refused-exactly : S.RefusedExactly
-refused-exactly x = inner-fact x
+pub refused_exactly : S.RefusedExactly
+refused_exactly x = inner_fact x
 
 pub example1 : Example1
-example1 = record { first = refused-exactly }
+example1 = record { first = refused_exactly }
+""",
+    "crates/low/proofs/hidden/Answers.antt": """-- Answers to the goals of a function.
+use Rattle.low.proofs.hidden.Goals as goal
+
+pub returns : goal.returns
+returns o = refl
+
+pub result_value : goal.result_value
+result_value o = refl
 """,
     "crates/low/must-fail/row_never_stored.edit": "",
     "crates/high_up/src/main.rt": "fn main() {\n}\n",
@@ -135,38 +144,44 @@ class Tree(unittest.TestCase):
 
 class Names(Tree):
     def test_code(self) -> None:
-        self.there("low::hidden", "low::for_c", "low::Row", "low::Row::read", "Row::read", "low::MOST_ROWS",
+        self.there("low::hidden", "low::length_for_c", "low::Row", "low::Row::read", "Row::read", "low::MOST_ROWS",
                    "low::table", "low::table::length_of", "table::length_of", "Verdict::Refused",
                    "io::write_all", "u32::count_ones")
         self.missing("low::shown", "high_up::hidden", "gone::hidden", "Row::hidden", "Verdict::Gone",
                      "low::other::hidden")
 
     def test_definitions_types_and_fields(self) -> None:
-        self.there("soundRow", "Due", "Row", "Refused", "Due.each", "Row.private", "Verdict.value", "MOST_ROWS")
-        self.missing("soundBlock", "Gone", "Due.tally", "Gone.each", "MOST_WARPS")
+        self.there("sound_row", "Due", "Row", "Refused", "Due.each", "Row.private", "Verdict.value", "MOST_ROWS")
+        self.missing("sound_block", "soundRow", "Gone", "Due.tally", "Gone.each", "MOST_WARPS")
 
     def test_laws_edits_crates_and_words(self) -> None:
-        self.there("refused-exactly", "inner-fact", "row_never_stored", "high_up", "low", "hidden", "stdout",
+        self.there("refused_exactly", "inner_fact", "row_never_stored", "high_up", "for_c", "low", "hidden", "stdout",
                    "example1", "tally")
-        self.missing("accepted-exactly", "row_stored", "lower", "low_down")
+        self.missing("accepted_exactly", "refused-exactly", "row_stored", "lower", "low_down", "returns", "result_value")
+
+    def test_what_is_called_a_law(self) -> None:
+        self.there("low")
+        self.assertEqual(self.faults("law `refused_exactly`; one law, `example1`; the laws `inner_fact` and `Row`"), [])
+        self.assertEqual(self.faults("law `sound_row`\n\na law, `row_never_stored`"),
+                         ["README.md:1: `sound_row`: no law has this name", "README.md:3: `row_never_stored`: no law has this name"])
 
     def test_paths(self) -> None:
         self.there("low/specs/Rows.antt", "crates/low/src", "tests/peer/run", "./crates.txt", "crates.txt",
-                   "specs/", "specs/Rows.antt", "proofs/X.antt", "proofs/FUNCTION/Proof.antt", "Rows.antt",
+                   "specs/", "specs/Rows.antt", "proofs/X.antt", "proofs/FUNCTION/Answers.antt", "Rows.antt",
                    "tests/peer/run short")
         self.missing("low/specs/Gone.antt", "tests/gone", "specs/Gone.antt", "Gone.antt")
         self.assertIn("no such file", self.faults("`tools/gone asm FILE`")[0])
 
     def test_what_is_no_name(self) -> None:
-        self.there("rt check low", "--jobs", "-j1", "0 no 21", "r ≡ gone", "N", "FILE", "00000003", "0x0f",
+        self.there("rt must-fail", "rt lib", "--jobs", "-j1", "0 no 21", "r ≡ gone", "N", "FILE", "00000003", "0x0f",
                    "axioms=9", "&mut", "requires", "popc", "parts/*.tsv", "l′", "awk '{print gone}'")
         self.assertEqual(self.faults("    `gone` in an example\n\n```\n`gone`\n```\n"), [])
 
     def test_names_of_a_file_or_crate(self) -> None:
         file = "`low/specs/Rows.antt`"
         elsewhere = ["README.md:1: `Verdict`: not in low/specs/Rows.antt"]
-        self.assertEqual(self.faults(f"{file}: `soundRow`, each `Due`; `Verdict`. `Due` in {file}"), [])
-        self.assertEqual(self.faults(f"{file}: `soundRow`, `Verdict`"), elsewhere)
+        self.assertEqual(self.faults(f"{file}: `sound_row`, each `Due`; `Verdict`. `Due` in {file}"), [])
+        self.assertEqual(self.faults(f"{file}: `sound_row`, `Verdict`"), elsewhere)
         self.assertEqual(self.faults(f"`Verdict` in {file}"), elsewhere)
         self.assertEqual(self.faults("| `low`: `row_never_stored`; `high_up`: `main` |"), [])
         self.assertEqual(self.faults("| `high_up`: `row_never_stored` |"),
@@ -189,13 +204,13 @@ class Claims(Tree):
 
     def test_a_law_that_is_missing(self) -> None:
         self.assertEqual(self.faults(changed={PROOFS: "pub example1 : Example1\n"}),
-                         ["crates/low/specs/Rows.antt:24: the claim RefusedExactly has no law refused-exactly"
+                         ["crates/low/specs/Rows.antt:24: the claim RefusedExactly has no law refused_exactly"
                           " in crates/low/proofs/"])
 
     def test_a_law_under_another_name_or_of_another_type(self) -> None:
-        found = self.faults(changed={PROOFS: "pub step-refused : RefusedExactly\npub example1 : Due\n"})
+        found = self.faults(changed={PROOFS: "pub step_refused : RefusedExactly\npub example1 : Due\n"})
         self.assertEqual(len(found), 2, found)
-        self.assertTrue(found[0].endswith("; step-refused proves it, at crates/low/proofs/Rows.antt:1"), found[0])
+        self.assertTrue(found[0].endswith("; step_refused proves it, at crates/low/proofs/Rows.antt:1"), found[0])
         self.assertIn("the claim Example1 has no law example1", found[1])
 
     def test_a_law_that_others_cannot_see(self) -> None:

@@ -1,4 +1,4 @@
-"""Each claim of a crate's specs/ has its law in the crate's proofs/: refused-exactly : RefusedExactly."""
+"""Each claim of a crate's specs/ has its law in the crate's proofs/: refused_exactly : RefusedExactly."""
 import pathlib
 import re
 from typing import Dict, List, NamedTuple, Tuple
@@ -18,8 +18,8 @@ class Place(NamedTuple):
 
 
 def law_of(claim: str) -> str:
-    """A claim's name in small letters, with a dash before each letter that was large but the first."""
-    return re.sub(r"(?<!^)([A-Z])", r"-\1", claim).lower()
+    """A claim's name in small letters, with a _ before each letter that was large but the first."""
+    return re.sub(r"(?<!^)([A-Z])", r"_\1", claim).lower()
 
 
 def claims_in(root: pathlib.Path, crate: str) -> Dict[str, Place]:

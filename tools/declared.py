@@ -16,9 +16,9 @@ HEAD = re.compile(r"(?:(?:abbrev|unfoldable|pub|mod|record|data) )*([^\s(]+) ?(.
 HEAD_END = re.compile(r" :( |$)| where$|^mod ")
 NO_HEAD = ("--", "use ", "open ", " ", "}", ")")
 FIELD = re.compile(r"  (?:pub )?([^\s(]+) :")
-WORD = re.compile(r"^pub ([a-z]+[0-9]*) :", re.MULTILINE)  # a law of one word
-# a law may stand under a `where`
-STATED = re.compile(r"^ *(?:(?:abbrev|unfoldable|pub) )*([^\s(]+) :(?: |$)", re.MULTILINE)
+WORD = re.compile(r"^pub ([a-z]+[0-9]*) :(?! goal\.)", re.MULTILINE)  # a law of one word
+# a law may stand under a `where`; an answer to a function's goal is none
+STATED = re.compile(r"^ *(?:(?:abbrev|unfoldable|pub) )*([^\s(]+) :(?: (?!goal\.)|$)", re.MULTILINE)
 
 
 class File(NamedTuple):

@@ -10,9 +10,9 @@ PATH = re.compile(r"(?:\./)?[\w.+-]+(?:/[\w.+-]+)*/?")
 FILE = re.compile(r"[\w-]+\.(?:antt|edit|md|rt|txt)")
 CODE = re.compile(r"\w+(?:::\w+)+")
 MEMBER = re.compile(r"([A-Z]\w*)\.(\w+)")
-LAW = re.compile(r"[a-z][a-z0-9]*(?:-[a-z0-9]+)+")
-NAME = re.compile(r"[A-Za-z][A-Za-z0-9_]+")
+NAME = re.compile(r"[A-Za-z][A-Za-z0-9_-]+")  # nothing of the project has a dash in its name
 NUMBER_TYPE = re.compile(r"[iu](?:8|16|32|64|size)")
+CALLED_LAW = re.compile(r"\blaws?,? $")
 FOLDERS = ("src/", "specs/", "proofs/", "must-fail/")  # those of a crate: a path that begins so is held in any crate
 STAND_IN = re.compile(r"(?:[A-Z]|[A-Z]{2,})(?:\..*)?")  # X.antt, FUNCTION: whoever reads puts a name there
 
@@ -81,12 +81,10 @@ def fault_of_code(text: str, has: Declared) -> str:
 
 def fault_of_name(text: str, has: Declared) -> str:
     """A lone name, by what it looks like."""
-    if re.fullmatch(r"[a-z]+[0-9]*", text):
-        known = has.code | has.specs | has.words | has.edits | set(has.crates) | has.placed
-        return "" if text in known else "no crate, function, definition or law has this name"
     if text == text.lower():
-        known = has.code | has.edits | set(has.crates)
-        return "" if text in known else "no crate, function or edit has this name"
+        one_word = re.fullmatch(r"[a-z]+[0-9]*", text)
+        known = has.code | has.specs | has.edits | set(has.crates) | (has.words | has.placed if one_word else has.laws)
+        return "" if text in known else "no crate, function, definition, law or edit has this name"
     if text == text.upper():
         return "" if text in has.code else "no constant has this name"
     return "" if text in has.specs | has.code else "no definition or type has this name"
@@ -109,15 +107,13 @@ def fault_of(text: str, has: Declared) -> str:
     member = MEMBER.fullmatch(text)
     if member:
         return "" if member[2] in has.members.get(member[1], ()) else f"no type {member[1]} has this field"
-    if LAW.fullmatch(text):
-        return "" if text in has.laws else "no law has this name"
     return fault_of_name(text, has) if NAME.fullmatch(text) else ""
 
 
 def fault_of_place(name: str, place: str, has: Declared) -> str:
     """Why a lone name is not declared in this file or crate."""
     there = has.declared_in(place)
-    if name in there or STAND_IN.fullmatch(name) or not (NAME.fullmatch(name) or LAW.fullmatch(name)):
+    if name in there or STAND_IN.fullmatch(name) or not NAME.fullmatch(name):
         return ""
     return f"not in {place}"
 
@@ -132,6 +128,8 @@ def complaints(page: pathlib.PurePath, text: str, has: Declared) -> List[str]:
         why = fault_of(span.text, has)
         if span.of_crates and span.text not in has.crates:
             why = "no such crate"
+        if CALLED_LAW.search(span.before) and NAME.fullmatch(span.text) and span.text not in has.laws and not why:
+            why = "no law has this name"
         if place and not why:
             why = fault_of_place(span.text, place, has)
         if span.line == last.line and span.before == " in " and span.text in has.files:

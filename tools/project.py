@@ -51,7 +51,8 @@ def write_whole(path: pathlib.Path, text: str) -> None:
 
 
 def crates_of(root: pathlib.Path) -> Project:
-    """crates.txt: a comment line is the title of a layer, and every other line is `crate: the crates it uses`."""
+    """crates.txt: a comment line is the title of a layer, and every other line is `crate: the crates it uses`, with the word
+    `staticlib` after the crate's name where it is a static library."""
     layers: List[Layer] = []
     uses: Dict[str, List[str]] = {}
     for number, line in enumerate(read_text(root / "crates.txt").splitlines(), 1):
@@ -61,10 +62,10 @@ def crates_of(root: pathlib.Path) -> Project:
         if line.startswith("#"):
             layers.append(Layer(line.lstrip("# "), []))
             continue
-        name, colon, rest = line.partition(":")
-        name = name.strip()
-        if not colon or not name or name in uses:
-            raise Wrong(f"crates.txt:{number}: a line is `crate: the crates it uses`, and a crate has one.")
+        before, colon, rest = line.partition(":")
+        name, *kind = before.split() or [""]
+        if not colon or not name or kind not in ([], ["staticlib"]) or name in uses:
+            raise Wrong(f"crates.txt:{number}: a line is `crate: the crates it uses` or `crate staticlib: ..`, and a crate has one.")
         if not layers:
             layers.append(Layer("crates", []))
         layers[-1].crates.append(name)

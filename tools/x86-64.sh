@@ -4,14 +4,14 @@
 # compiler for it (installed where missing), $cxx with what it needs to link
 # statically; and $emulator, which runs such programs here and is empty where nothing
 # is needed.
-archive=target/staticlib/libglubotar_c.a
+archive=crates/glubotar_c/out/libglubotar_c.a
 if [ ! -f "$archive" ]; then
-    echo "$archive is missing; rt staticlib glubotar_c makes it" >&2
+    echo "$archive is missing; rt lib in crates/glubotar_c makes it" >&2
     exit 2
 fi
 newer=$(find crates/*/src crates.txt -newer "$archive" -print | head -n 1)
 if [ -n "$newer" ]; then
-    echo "$archive is older than $newer; rt staticlib glubotar_c makes it anew" >&2
+    echo "$archive is older than $newer; rt lib in crates/glubotar_c makes it anew" >&2
     exit 2
 fi
 
@@ -34,6 +34,5 @@ if [ "$(uname -m)" != x86_64 ]; then
     ln -sf "$(dirname "$("$cxx" -print-file-name=libm.a)")"/libm-*.a target/x86-64/libm.a
     cxx="$cxx -Ltarget/x86-64"
 fi
-home=$(dirname "$(dirname "$(rt doc)")")
-emulator=$home/on/$(uname -m)/toolchain/bin/qemu-x86_64
+emulator=$(dirname "$(rt doc)")/toolchain/bin/qemu-x86_64
 [ -x "$emulator" ] || emulator=
