@@ -14,7 +14,7 @@ from launcher.guarded import run_guarded
 from launcher.project import EMULATOR, PROGRAM, Project
 from launcher.streams import Failure, file_of, progress, read_file, reason, say, write_all, write_whole
 
-PROVED = re.compile(rb"rt: \S+ proved")
+PROVED = re.compile(rb"logic=proved ")  # ends the check of a crate
 LOG_END = 20  # lines of a failed build's log that are shown
 
 
@@ -56,7 +56,7 @@ def build(project: Project) -> None:
     except OSError as error:
         raise Failure(f"a source can't be read: {file_of(error, project.root)}: {reason(error)}") from None
     say(f"building the checker; it is proved first, which takes up to ten minutes (log: {log_of(project)})")
-    run_rt(project, "check", "glubotar")
+    run_rt(project, "run", "glubotar")  # which runs it too, once, without arguments and on an empty input
     try:
         collect(project)
         places = project.places()
@@ -70,10 +70,10 @@ def build(project: Project) -> None:
 
 def collect(project: Project) -> None:
     """Lays the program and what it is started by into the checker's folder."""
-    built = os.path.join(project.target, "bin", "glubotar")
+    built = built_by(project, "glubotar", "glubotar")
     if not os.path.isfile(built):
-        raise Failure(f"the build left no {built}; remove {project.target} and try again")
-    tools = os.path.join(kit(), "on", os.uname().machine, "toolchain")
+        raise Failure(f"the build left no {built}; remove {os.path.dirname(built)} and try again")
+    tools = os.path.join(kit(), "toolchain")
     libraries = os.path.join(tools, "lib")
     files = {PROGRAM: built, EMULATOR: os.path.join(tools, "bin", EMULATOR)}
     files.update({name: os.path.join(libraries, name) for name in os.listdir(libraries) if ".so" in name})
@@ -84,23 +84,27 @@ def collect(project: Project) -> None:
             write_whole(os.fsencode(os.path.join(project.checker, name)), read_file(os.fsencode(source)), 0o755)
 
 
+def built_by(project: Project, crate: str, name: str) -> str:
+    """Where rt leaves what it built of a crate."""
+    return os.path.join(project.root, "crates", crate, "out", name)
+
+
 def log_of(project: Project) -> str:
     return os.path.join(project.target, "build.log")
 
 
-def run_rt(project: Project, *words: str) -> None:
-    """Runs the kit's rt in the project. Its output is the log, and each crate that it proves is counted."""
+def run_rt(project: Project, verb: str, crate: str) -> None:
+    """Runs the kit's rt in the folder of a crate. Its output is the log, and each crate that it proves is counted."""
     rt, log_name = find_rt(), log_of(project)
-    count, of = 0, len(crates(project, words[-1]))
+    count, of = 0, len(crates(project, crate))
     ending: list[bytes] = []
     try:
         scratch = tempfile.mkdtemp(prefix="glubotar.")
     except OSError as error:
         raise Failure(f"no temporary folder can be made: {error.strerror}") from None
     try:
-        os.chmod(scratch, 0o711)  # as root, rt runs the new program as another user
         with open(log_name, "wb", buffering=0) as log:
-            run = run_guarded([rt, *words], project.root, dict(os.environ, TMPDIR=scratch))
+            run = run_guarded([rt, verb], os.path.join(project.root, "crates", crate), dict(os.environ, TMPDIR=scratch))
             with contextlib.closing(run.lines()) as lines:  # at its end the build is gone, whatever happened
                 for line in lines:
                     write_all(log.fileno(), line)
@@ -120,7 +124,8 @@ def run_rt(project: Project, *words: str) -> None:
 def crates(project: Project, name: str) -> list[str]:
     """A crate and all that it is built on, by crates.txt."""
     with open(os.path.join(project.root, "crates.txt"), encoding="utf-8", errors="replace") as lines:
-        needs = {line.partition(":")[0].strip(): line.partition(":")[2].split() for line in lines}
+        parts = [line.partition(":") for line in lines]
+    needs = {(before.split() or [""])[0]: after.split() for before, _, after in parts}  # a word may stand after the name
     found, left = [], [name]
     while left:
         crate = left.pop()
@@ -142,4 +147,4 @@ def kit() -> str:
     told = subprocess.run([find_rt(), "doc"], stdout=subprocess.PIPE, check=False)
     if told.returncode != 0:
         raise Failure("the Rattle kit does not work here: rt doc failed")
-    return os.path.dirname(os.path.dirname(os.fsdecode(told.stdout).strip()))
+    return os.path.dirname(os.fsdecode(told.stdout).strip())

@@ -49,10 +49,10 @@ class Checker:
 
     def answer_group(self, names: list[bytes]) -> list[Answer]:
         """The answers to some traces by one process, read as they come. All that it prints belongs to one of them."""
-        if names == [STANDARD_INPUT]:
-            return [self.answer_input()]
         if len(names[0]) > LONGEST_NAME:
             return [Answer(names[0], fault="its name is too long")]
+        if is_read_here(names[0]):
+            return [self.answer_read(names[0])]
         answers: list[Answer] = []
         rest = b""
         with self.processes.started(self.command + names) as process:
@@ -62,13 +62,13 @@ class Checker:
             raise broke_off(names[min(len(answers), len(names) - 1)])
         return answers
 
-    def answer_input(self) -> Answer:
-        """The answer to standard input, which is read here: it may be a pipe that doesn't block."""
+    def answer_read(self, name: bytes) -> Answer:
+        """The answer to a trace that is read here."""
         try:
-            trace = read_file(STANDARD_INPUT, MOST_BYTES + 1)
+            trace = read_file(name, MOST_BYTES + 1)
         except OSError as error:
-            return Answer(STANDARD_INPUT, fault=reason(error))
-        return self.answer_bytes(STANDARD_INPUT, trace)
+            return Answer(name, fault=reason(error))
+        return self.answer_bytes(name, trace)
 
     def answer_bytes(self, name: bytes, trace: bytes) -> Answer:
         """The answer to the bytes of a trace."""
@@ -113,6 +113,16 @@ class Checker:
         first = first_refused(output, start, end) if refused else None
         text = output[start:after] if self.keep_text else b""
         return Answer(name, accepted, refused, first, "", text), after
+
+
+def is_read_here(name: bytes) -> bool:
+    """Whether the checker gets the bytes and not the name: of standard input, which may be a pipe that doesn't block, and of a
+    file whose name is no UTF-8, which the checker can't open."""
+    try:
+        name.decode()
+    except UnicodeDecodeError:
+        return True
+    return name == STANDARD_INPUT
 
 
 def number(word: bytes) -> int:
@@ -168,14 +178,14 @@ def looks_like_text(data: bytes) -> bool:
 
 
 def grouped(names: list[bytes], jobs: int, most: int) -> list[list[bytes]]:
-    """Groups of traces in their order: four to a job, so that none is idle for long at the end. Standard input, and a name that
-    no file can have, stand alone."""
+    """Groups of traces in their order: four to a job, so that none is idle for long at the end. What is read here, and a name
+    that no file can have, stand alone."""
     most = min(most, (len(names) - 1) // (4 * jobs) + 1)
     groups: list[list[bytes]] = []
     size = 0
     alone = True
     for name in names:
-        was_alone, alone = alone, name == STANDARD_INPUT or len(name) > LONGEST_NAME
+        was_alone, alone = alone, len(name) > LONGEST_NAME or is_read_here(name)
         if alone or was_alone or len(groups[-1]) == most or size + len(name) > GROUP_BYTES:
             groups.append([])
             size = 0

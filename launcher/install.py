@@ -6,7 +6,7 @@ import py_compile
 import shutil
 
 from launcher import VERSION
-from launcher.build import lock, run_rt
+from launcher.build import built_by, lock, run_rt
 from launcher.project import Project
 from launcher.streams import Failure, file_of, read_file, reason, write_whole
 
@@ -32,7 +32,7 @@ def install(root: str, prefix: str) -> None:
         os.makedirs(os.path.join(prefix, "lib"), exist_ok=True)  # a wrong prefix is said before the build
         project.command()
         with lock(project):  # nobody builds the checker anew meanwhile
-            run_rt(project, "staticlib", "glubotar_c")
+            run_rt(project, "lib", "glubotar_c")
             install_launcher(project, prefix)
             install_library(project, prefix)
     except OSError as error:
@@ -76,7 +76,7 @@ def lay_home(project: Project, home: str) -> None:
 
 def install_library(project: Project, prefix: str) -> None:
     copy(os.path.join(project.root, "include", "glubotar.h"), os.path.join(prefix, "include", "glubotar.h"))
-    copy(os.path.join(project.target, "staticlib", ARCHIVE), os.path.join(prefix, "lib", ARCHIVE))
+    copy(built_by(project, "glubotar_c", ARCHIVE), os.path.join(prefix, "lib", ARCHIVE))
     lay(os.path.join(prefix, "lib", "pkgconfig", "glubotar.pc"), PKG_CONFIG.encode(), 0o644)
 
 

@@ -6,6 +6,7 @@ import os
 from launcher.streams import Failure, read_file, write_whole
 
 PROGRAM, LOADER, EMULATOR = "program", "ld-linux-x86-64.so.2", "qemu-x86_64"
+NO_SOURCES = {"must-fail", "out"}  # of a crate's folder: what must fail, and what rt builds
 
 
 class Project:
@@ -35,11 +36,12 @@ class Project:
     # ---- what it was built from
 
     def sources(self) -> list[str]:
-        """The sources and their folders, from the root, in order. What must fail is in no checker."""
+        """The sources and their folders, from the root, in order."""
         found = ["crates.txt"]
         for folder, folders, files in os.walk(os.path.join(self.root, "crates")):
-            folders[:] = sorted(name for name in folders if name != "must-fail")
             place = os.path.relpath(folder, self.root)
+            left = NO_SOURCES if place.count(os.sep) == 1 else set()
+            folders[:] = sorted(name for name in folders if name not in left)
             found += [place] + [os.path.join(place, name) for name in sorted(files)]
         return found
 

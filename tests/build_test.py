@@ -31,9 +31,9 @@ LOADER = """#!/bin/sh
 [ "$1" = --library-path ] && shift 2 && exec "$@"
 """
 RT = """#!/bin/sh
-[ "$*" != doc ] || exec echo '{kit}/docs/START-HERE.md'
-[ "$*" = 'check glubotar' ] && [ -f crates.txt ] || exit 2
-. '{kit}/check'
+[ "$*" != doc ] || exec echo '{kit}/START-HERE.md'
+[ "$*" = run ] && [ "${{PWD##*/}}" = glubotar ] && [ -f ../../crates.txt ] || exit 2
+. '{kit}/run'
 """
 
 
@@ -47,16 +47,16 @@ class WithKit(Launching):
         (self.repository / "docs").mkdir()
         shutil.copy(ROOT / "docs/TRACES.md", self.repository / "docs")
         (self.repository / "crates/glubotar/must-fail").mkdir(parents=True)
-        (self.repository / "crates.txt").write_text("walks:\nfolds:\ntext: folds\nglubotar: text walks io\nother: folds\n")
+        (self.repository / "crates.txt").write_text("walks:\nfolds:\ntext: folds\nglubotar: text walks io\nother staticlib: folds\n")
         (self.repository / "crates/glubotar/main.rt").write_text("source\n")
         self.launcher = self.repository / "glubotar"
         self.target = self.repository / "target"
         self.checker = self.target / "checker" / MACHINE
         self.script(self.kit / "program", PROGRAM)
-        self.script(self.kit / "on" / MACHINE / "toolchain/lib/ld-linux-x86-64.so.2", LOADER)
+        self.script(self.kit / "toolchain/lib/ld-linux-x86-64.so.2", LOADER)
         self.script(self.kit / "bin/rt", RT.format(kit=self.kit))
         self.environment["PATH"] = f"{self.kit}/bin:{os.environ['PATH']}"
-        self.builds = f"mkdir -p target/bin; cp '{self.kit}/program' target/bin/glubotar"
+        self.builds = f"mkdir -p out; cp '{self.kit}/program' out/glubotar"
         self.rt_does(self.builds)
         self.trace("plain", "echo end 0 0")
 
@@ -66,7 +66,7 @@ class WithKit(Launching):
         path.chmod(0o755)
 
     def rt_does(self, text):
-        (self.kit / "check").write_text(text + "\n")
+        (self.kit / "run").write_text(text + "\n")
 
     def trace(self, name, text):
         (self.work / name).write_text(text + "\n")
@@ -108,7 +108,7 @@ class Build(WithKit):
         self.due(self.go("plain"), 2, b"", BUILT, "the build failed")
         self.rt_does(self.builds + "; kill -9 $$")
         self.due(self.go("plain"), 2, b"", BUILT, "the build failed")
-        self.rt_does(self.builds + "; echo more >crates/glubotar/main.rt")
+        self.rt_does(self.builds + "; echo more >main.rt")
         self.due(self.go("plain"), 2, b"", BUILT, "the sources changed while the checker was built")
         self.rt_does(self.builds)
         self.due(self.go("plain"), 0, PLAIN, BUILT)

@@ -196,6 +196,11 @@ class TheProgramAlone(Launching):
         few = limits(resource.RLIMIT_NOFILE, 32)  # each is closed before the next
         self.due(self.run_it(*[WRONG] * 200, preexec_fn=few), 0, (f"file {WRONG}\n".encode() + WRONG_TEXT) * 200)
 
+    def test_what_it_can_open(self):
+        odd = self.file(b"no\xffutf", (ROOT / GOOD).read_bytes())
+        self.due(self.run_it(odd, "missing", WRONG), 0, b"unreadable %s\nunreadable missing\nfile %s\n" % (os.fsencode(odd), WRONG.encode())
+                 + WRONG_TEXT)
+
     @unittest.skipUnless(os.path.exists("/dev/full"), "there is no device that is always full")
     def test_a_full_output(self):
         for words in ([WRONG], ["missing", WRONG], []):
@@ -211,6 +216,18 @@ class Names(Launching):
                 self.file(name, (ROOT / GOOD).read_bytes())
                 self.due(self.run_it("--", name, cwd=self.work), 0, GOOD_TEXT)
                 self.due(self.run_it("--", name, name, cwd=self.work), 0, good_row(name) * 2 + total(2, 20, 0, 0, 0))
+
+    def test_no_utf8(self):
+        odd, gone = b"no\xffutf", b"gone\xff"
+        self.file(odd, (ROOT / WRONG).read_bytes())
+        self.file("a", (ROOT / GOOD).read_bytes())
+        due = wrong_row(odd) + good_row("a") + miss_row(gone) + wrong_row(odd) + total(4, 14, 2, 1, 2)
+        for jobs in ("-j1", "-j3"):
+            ran = self.run_it(jobs, odd, "a", gone, odd, cwd=self.work)
+            self.assertEqual((ran.status, ran.out), (2, due))
+            self.assertIn(f"unreadable: {os.fsdecode(gone)}: no such file\n", ran.err)
+        text = self.file(b"text\xff", b"warps 2\n")
+        self.assertIn("looks like a text", self.run_it(text).err)
 
     def test_tabs_and_line_ends(self):
         odd = ["two\tcolumns", "two\nlines", "\x1b[31m", "x\nend 9 9\nfile y", "\x7f\r\x9b", "naïve\t"]

@@ -81,7 +81,7 @@ class Terminal(Launching):
 
 class BuildOnTerminal(WithKit):
     def test_crates_are_counted(self):
-        self.rt_does("for crate in folds walks text glubotar; do echo noise; echo \"rt: $crate proved (1 s)\"; done; " + self.builds)
+        self.rt_does("for crate in folds walks text glubotar; do echo noise; echo \"logic=proved functions=1\"; done; " + self.builds)
         status, text = on_terminal(self.words("plain"), 30, both=False, cwd=self.work, env=self.environment)
         self.assertEqual(status, 0)
         self.assertIn(BUILT, text)
