@@ -19,13 +19,14 @@ STAND_IN = re.compile(r"(?:[A-Z]|[A-Z]{2,})(?:\..*)?")  # X.antt, FUNCTION: whoe
 # Words that look like names of the project and are none, by what they are.
 FOREIGN = {
     "the language": {"ensures", "if", "requires", "static"},
-    "the C library": {"close", "open", "read", "write", "SIZE_MAX"},
+    "the C library": {"read", "write", "SIZE_MAX"},
     "glubotar's commands": {"asm", "explain", "install", "join", "show"},
     "other programs": {"cat", "parallel", "qemu-user", "qemu-x86_64", "rsync", "rt"},
     "PTX": {"and", "atom", "barrier", "exit", "or", "popc", "vote"},
     "traces of bench": {"barriers", "held", "mixed", "objects", "reds"},
     "rt's folders": {"must-fail"},
-    "the kit's logic and tools": {"Is", "cc", "look-raw", "mir", "owed", "peeks", "places", "rw"},
+    "the kit's crates": {"libc", "os", "std"},
+    "the kit's logic and tools": {"Is", "cc", "owed", "rw", "using"},
 }
 FOREIGN_WORDS = set().union(*FOREIGN.values())
 
