@@ -8,7 +8,7 @@ use block::{Barrier, Block, Warp};
 use steps::Step;
 use tables::Seen;
 
-// The barrier whose row the step may change, where those of live have not exited; the block stays as it is. It is lent as one that may change, since a field of a lent block is lent on so (`in_place`).
+// The barrier whose row the step may change, where those of live have not exited; the block stays as it is. It is lent as one that may change, since a field of a lent block is lent on so.
 fn barrier_for(b: &mut Block, live: u32, s: Step) -> u8
     ensures { (result ≡ barrier_for live b.old s.warp s.op) × (b.new ≡ b.old) }
 {
