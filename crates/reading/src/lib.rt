@@ -1,7 +1,8 @@
 // Reading traces. What was read is told by a `Read`, and that it can't be read by a `Failure`; each tells of which argument. Only the functions here make them, so that no other function can answer for more bytes than were read or for fewer, take one file for another, or call a trace unreadable that nobody tried to read.
 #![tactic(auto)]
 
-ghost use Rattle.std.specs.Prelude.{◌≡◌, ℕ, List};
+ghost use Rattle.std.specs.Prelude.{◌≡◌, ℕ, List, MatchResult, negsuc};
+ghost use Rattle.std.specs.Int.{IsNonNegative};
 ghost use Rattle.io.specs.Counts.{IsPrefixLen};
 ghost use Rattle.reading.specs.Reading.{Fills, path_of};
 
@@ -12,6 +13,9 @@ use trace_look::MOST_BYTES;
 
 // One byte past the longest trace, so that a longer one is seen to be too long.
 pub const TRACE_ROOM: usize = MOST_BYTES + 1;
+
+// The largest number of bytes that an answer holds.
+const MOST_READ: usize = 9223372036854775807;
 
 // What was read: the number of the argument that names the file, 0 for standard input; so many bytes of its path at the start of one buffer; and so many bytes of the trace at the start of another.
 #[derive(Clone, Copy)]
@@ -78,6 +82,33 @@ fn failed(number: usize, path: usize, reason: Error) -> Filled
     })
 }
 
+// What a call that reads answers, as C's calls do: how many bytes it read, or a number below zero where it failed; and why it failed.
+#[derive(Clone, Copy)]
+struct Answered {
+    number: isize,
+    reason: Error,
+}
+
+// The answer to such a call; a count that the number can't hold is its largest.
+fn answer_of(got: std::io::Result<usize>) -> Answered
+    ensures { MatchResult got (λ n. IsNonNegative result.number) (λ e. result.number ≡ negsuc 0) }
+{
+    match got {
+        Ok(read) => Answered {
+            number: if read < MOST_READ {
+                read as isize
+            } else {
+                MOST_READ as isize
+            },
+            reason: Error::from(ErrorKind::Other),
+        },
+        Err(reason) => Answered {
+            number: -1,
+            reason: reason,
+        },
+    }
+}
+
 // Reads until the buffer is full or the input ends. In a full buffer the trace is too long, whatever follows in the input.
 fn fill<R: std::io::Read>(
     number: usize,
@@ -91,10 +122,16 @@ fn fill<R: std::io::Read>(
     let room: &mut [u8] = buf;
     let mut at = 0;
     while at < room.len() {
-        let more = match from.read(&mut room[at..]) {
-            Ok(more) => more,
-            Err(reason) => return failed(number, path, reason),
-        };
+        let got = answer_of(from.read(&mut room[at..]));
+        if got.number < 0 {
+            return Filled::Failed(Failure {
+                number: number,
+                path: path,
+                answer: got.number,
+                reason: got.reason,
+            });
+        }
+        let more = io::count(got.number, &room[at..]);
         if more == 0 {
             break;
         }
