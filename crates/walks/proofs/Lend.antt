@@ -1,6 +1,6 @@
 -- A call of a function that is lent something for the call alone: what lies in memory is lent for a lifetime that the step makes, the function is called, the lifetime is ended, and what lies there comes back.
 --     Loan             what is lent: the reference at each lifetime and name, its machine value, and what the lender keeps
---     LentFree R t     the share t of each value of R in memory is lent as a `&` with no token. A type that is Copy has it at every share: `denote.Copied`'s `lends`
+--     LentFree R t     the share t of each value of R in memory is lent as a `&` with no token.         copied_free      a type that is copied has it at every share
 --     rows_shared      rows lent as a `&[T]`, of a T that has it, since each type says itself what a `&` to it holds. A `&` has no name, and is the same at each.        rows_shared_back      they come back as they were
 --     rows_lent        rows lent as a `&mut [T]`.        rows_lent_back      they come back at the last list
 --     record_lent      a record lent as a `&mut T`.        record_lent_back      it comes back at its last value
@@ -30,6 +30,7 @@ use types.Share.{arr_parts}
 use denote.RattleType.{RattleType, owns, Denots, Valss}
 use denote.Laws.{Is, Ises, Are, Tells, Makess, shows, owns_make}
 use denote.Memory.{cell_at, part_of, part_at, mem, shares, shared_of}
+use denote.Copied.{Copied}
 use denote.Shadow.{pure_i}
 use denote.Slice.{slice_val, ShrSlice, Room, finally, shr_slice_at, elements_shared}
 use denote.Lend.{Held, lends_ref, ref_back, lends_slice, slice_back}
@@ -59,7 +60,11 @@ Back {𝓤 = 𝓤} 𝓛 s P L k κ δ w P' = ent 𝓤 (sep 𝓤 (𝓛.A.dead κ)
 abbrev pub LentFree : {M : Type 1} {𝓤 : Ura M} (𝓛 : Logic 𝓤) (R : RattleType) → Share → Type 1
 LentFree 𝓛 R t = (x : R.Denot) (b o : ℕ) → Lent 𝓛 (part_at R t x b o) (shared_of R x b o)
 
--- then so is a row of them
+-- so it is of a type that is copied, at every share
+pub copied_free : {M : Type 1} {𝓤 : Ura M} (𝓛 : Logic 𝓤) (R : RattleType) → Copied 𝓛 R → (t : Share) → LentFree 𝓛 R t
+copied_free 𝓛 R copied t = copied.lends t
+
+-- where each value is, so is a row of them
 row_free : {M : Type 1} {𝓤 : Ura M} (𝓛 : Logic 𝓤) (R : RattleType) (t : Share) → LentFree 𝓛 R t → (ys : List R.Denot) (b o : ℕ) → Lent 𝓛 (row R t ys b o) (elements_shared R ys b o)
 row_free 𝓛 R t free [] b o = Lent-nothing 𝓛
 row_free 𝓛 R t free (y ∷ ys) b o =
