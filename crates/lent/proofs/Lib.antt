@@ -1,2 +1,4 @@
+pub mod Spelt
 pub mod Entries
 pub mod Laws
+pub mod Calls
