@@ -2,6 +2,7 @@
 --     array_lent       an array of n lent as a `&mut [T]` (`Rattle.walks.proofs.Lend`'s `Loan`).        array_lent_back      it comes back at the last list, by its other name zs
 --     barriers_out     a block in memory gives its barriers in memory, and what is kept of it.        barriers_in      any barriers in that memory, with what is kept, are the block with those
 --     rows_out, rows_in        the same of its warps' rows
+--     barriers_free, rows_free     each is lent as a `&` to a slice with no token
 -- What is kept of the block stands in the context while its array is lent: a loan's own `Keep` is a formula, and what is kept holds a way back, which is none.
 -- Assumes `Logic`.
 use mathlib.Core.Path.{◌≡◌, refl, sym, subst}
@@ -12,7 +13,7 @@ use seplogic.Ra.Ura.{Ura}
 use base.Fraction.{full_share}
 use mir.Syntax.{named}
 use base.Logic.{ent, sep, ex}
-use base.Fml.{Lft, GName, fsep, feq, fdead, flent, fbor}
+use base.Fml.{Lft, GName, Share, fsep, feq, fdead, flent, fbor}
 use types.Logic.{Logic, sem}
 use types.Kit.{Item, ‵, later, mean, ◌$◌, ◌∵◌, !, qed, by, move, keep, use1, use3, fsplit, fjoin, feq_l, await, updating, now as at_once, done}
 use types.SemTy.{Arr}
@@ -27,14 +28,17 @@ use denote.Index.{row, whole_out}
 use denote.Exit.{yes}
 use denote.Signature.{plain, mut_slice_of}
 use denote.Struct.Loose.{Looses, loosens}
+use denote.Struct.Laws as LL
 use borrow.Struct.Lend.{kept_field, record_apart, record_fill}
-use Rattle.walks.proofs.Lend.{Loan, Back, rows_lent}
+use Rattle.walks.proofs.Lend.{Loan, Back, LentFree, copied_free, rows_lent}
 use Rattle.block.specs.declared.Warp.{Warp}
 use Rattle.block.specs.declared.Barrier.{Barrier}
 use Rattle.block.specs.declared.Block.{Block}
 use Rattle.block.specs.contracts.Warp as U
 use Rattle.block.specs.contracts.Barrier as R
 use Rattle.block.specs.contracts.Block as B
+use Rattle.block.proofs.Warp.TheLaws as U'
+use Rattle.block.proofs.Barrier.TheLaws as R'
 use Rattle.block.proofs.Block.TheLaws as B'
 
 module _ {M : Type 1} {𝓤 : Ura M} (𝓛 : Logic 𝓤) (T : RattleType) (one : Single T.mir) (n : ℕ) (room : Room T n) (b o : ℕ) where
@@ -66,6 +70,13 @@ Barriers = Array R.the_row 16
 -- ---- its warps' rows, 4 bytes on
 abbrev pub Rows : RattleType
 Rows = Array U.the_row 32
+
+-- both are lent as a `&` to a slice with no token
+pub barriers_free : {M : Type 1} {𝓤 : Ura M} (𝓛 : Logic 𝓤) (t : Share) → LentFree 𝓛 R.the_row t
+barriers_free 𝓛 = copied_free 𝓛 R.the_row (LL.copied R.the_type R'.the_copy 𝓛)
+
+pub rows_free : {M : Type 1} {𝓤 : Ura M} (𝓛 : Logic 𝓤) (t : Share) → LentFree 𝓛 U.the_row t
+rows_free 𝓛 = copied_free 𝓛 U.the_row (LL.copied U.the_type U'.the_copy 𝓛)
 
 -- a block's fields as the laws of a cut take them
 abbrev parts_loose : Looses (B.the_type).parts

@@ -180,7 +180,7 @@ unseen o (Complete x) = false
 unseen o (Token t) = false
 unseen o (Parity p) = false
 
--- a no_complete step
+-- a noComplete step
 abbrev pub no_complete : Act → Bool
 no_complete (Init n) = false
 no_complete Inval = false
@@ -190,7 +190,7 @@ no_complete (Complete x) = false
 no_complete (Token t) = false
 no_complete (Parity p) = false
 
--- 17: "a no_complete step would complete the phase"
+-- 17: "a noComplete step would complete the phase"
 abbrev pub ends_quietly : Object → Act → Bool
 ends_quietly o a = no_complete a && ends o a
 

@@ -67,7 +67,7 @@ fn both_zero(o: Object) -> bool
     (o.pending == 0) & (o.tx == 0)
 }
 
-// After an arrival or a complete: the phase completes if pending and transactions are both 0; a no_complete step can't, nor can the last phase.
+// After an arrival or a complete: the phase completes if pending and transactions are both 0; a noComplete step can't, nor can the last phase.
 fn settle(o: Object, quiet: bool, value: u64) -> Answer
     ensures { result ≡
         cond (both_zero o)
@@ -103,7 +103,7 @@ fn settle(o: Object, quiet: bool, value: u64) -> Answer
     }
 }
 
-// Every arrival and drop: the count, whether it drops, the attached expectation (0 where there is none), whether it is a no_complete.
+// Every arrival and drop: the count, whether it drops, the attached expectation (0 where there is none), whether it is a noComplete.
 pub fn arrive(o: Object, slot: u8, count: u32, drop: bool, expects: u32, quiet: bool) -> Answer
     ensures { result ≡ step_row o slot (Act.Arrive count drop expects quiet) }
 {

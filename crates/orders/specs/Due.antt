@@ -78,7 +78,7 @@ each p l = foldr (λ s b. p s && b) true l
 abbrev pub on : ℕ → Step → Bool
 on a s = of_object (λ b y. eqb b a) s.op
 
--- an arrival or a drop that isn't no_complete, or a completion
+-- an arrival or a drop that isn't noComplete, or a completion
 abbrev pub is_part : Act → Bool
 is_part (Arrive n drop x quiet) = not quiet
 is_part (Complete x) = true
@@ -134,7 +134,7 @@ pub record Due (t : Tables) (a : ℕ) (l : List Step) : Type 0 where
   pub phase : (object_at t a).phase ≢ last_phase
   -- "Take arrivals and drops on it .. and completions on it"
   pub on : each (on a) l ≡ true
-  -- "arrivals and drops .., none no_complete, with or without an attached expectation, and completions"
+  -- "arrivals and drops .., none noComplete, with or without an attached expectation, and completions"
   pub kinds : each takes_part l ≡ true
   -- "each arrival, drop and completion at least 1"
   pub sizes : each at_least_one l ≡ true

@@ -86,7 +86,7 @@ pub record Tight : Type 0 where
   -- 7: a step on another object
   pub on : Needed 7 (with_row (with_object (live_row 2 2 (pos 0) 0 true)) 24 (live_row 2 2 (pos 0) 0 true)) 16
       (object_step (Arrive 1) ∷ step_on 0 24 (Arrive 1) ∷ []) (Accepted 2097154 false 0 ∷ Accepted 3145730 false 0 ∷ [])
-  -- 8: a no_complete step; an expectation alone, which completes no phase
+  -- 8: a noComplete step; an expectation alone, which completes no phase
   pub no_complete : Needed 8 single 16 (object_step (ArriveNoComplete 1) ∷ []) (Refused 17 ∷ [])
   pub expect_alone : Needed 8 single 16 (object_step (Complete 64) ∷ object_step (Arrive 1) ∷ object_step (Expect 64) ∷ [])
       (Accepted 0 false 0 ∷ Accepted 2097153 false 0 ∷ Accepted 0 false 0 ∷ [])

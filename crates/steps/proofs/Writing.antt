@@ -49,8 +49,8 @@ module _ (s : Step) where
   size = ap suc (length_encode (row (kind_of s)) (values_of s))
 
   module _ (out : List ℕ) (at : ℕ) where
-    pub no_room : length out < at + length (bytes_of s) → (Refused 2 ≡ write_at s out at) × (out ≡ written s out at)
-    no_room h = (rw (lt-ltb (length out) (at + length (bytes_of s)) h), laid_short out at (bytes_of s) h)
+    pub no_room_lem : length out < at + length (bytes_of s) → (Refused 2 ≡ write_at s out at) × (out ≡ written s out at)
+    no_room_lem h = (rw (lt-ltb (length out) (at + length (bytes_of s)) h), laid_short out at (bytes_of s) h)
 
     pub has_room : at + length (bytes_of s) ≤ length out
         → (Next (at + length (bytes_of s)) ≡ write_at s out at) × (sets out at (bytes_of s) ≡ written s out at)

@@ -27,7 +27,7 @@ pub const INVAL: u8 = 8;
 // Arrive at an object.
 pub const ARRIVE: u8 = 9;
 
-// Arrive, no_complete.
+// Arrive, noComplete.
 pub const ARRIVE_NO_COMPLETE: u8 = 10;
 
 // Arrive with an attached expect.
@@ -54,5 +54,5 @@ pub const TEST_PARITY: u8 = 17;
 // Pending count of a token.
 pub const PENDING_COUNT: u8 = 18;
 
-// Drop, no_complete.
+// Drop, noComplete.
 pub const DROP_NO_COMPLETE: u8 = 19;

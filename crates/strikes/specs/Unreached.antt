@@ -145,7 +145,7 @@ AllBroken =
 
 -- ---- the last phase, and the largest tallies
 
--- in the last phase, with one arrival pending: an arrive, a no_complete arrive; with none pending, a complete of 0; an arrive that leaves one pending
+-- in the last phase, with one arrival pending: an arrive, a noComplete arrive; with none pending, a complete of 0; an arrive that leaves one pending
 abbrev pub last : ℕ → Tables
 last p = tables 1 fresh_warp fresh_warp idle (live_row 3 p (pos 0) last_phase true)
 

@@ -108,7 +108,7 @@ first v o s =
     ∷ (of_object (λ a x. row.bad_count o x) s.op, 14)  -- init count not 1 to 1,048,575; arrival or drop count 0 or above pending; drop count also not below expected
     ∷ (of_object (λ a x. row.out_of_range o x) s.op, 15)  -- transaction count would leave its range
     ∷ (of_object (λ a x. row.unseen o x) s.op, 16)  -- arrival or drop while the previous phase is unseen
-    ∷ (of_object (λ a x. row.ends_quietly o x) s.op, 17)  -- a no_complete step would complete the phase
+    ∷ (of_object (λ a x. row.ends_quietly o x) s.op, 17)  -- a noComplete step would complete the phase
     ∷ (of_object (λ a x. row.ends_last o x) s.op, 18)  -- the step would complete phase 4,294,967,295
     ∷ (bad_token o s.op, 19)  -- token of 2^58 or more; in a test also another object's, or of a phase neither current nor the one before
     ∷ (of_object (λ a x. row.bad_parity x) s.op, 20)  -- parity above 1

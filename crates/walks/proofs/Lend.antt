@@ -1,6 +1,6 @@
 -- A call of a function that is lent something for the call alone: what lies in memory is lent for a lifetime that the step makes, the function is called, the lifetime is ended, and what lies there comes back.
 --     Loan             what is lent: the reference at each lifetime and name, its machine value, and what the lender keeps
---     LentFree R t     the share t of each value of R in memory is lent as a `&` with no token.         copied_free, whole_free      at every share, a type that is copied has it, and so has one a `&` to which is one borrow of the whole value
+--     LentFree R t     the share t of each value of R in memory is lent as a `&` with no token.         copied_free, whole_free      at every share, a type that is copied has it, and so has one a `&` to which is one borrow of the whole value.        bytes_free      a byte has it
 --     rows_shared      rows lent as a `&[T]`, of a T that has it, since each type says itself what a `&` to it holds. A `&` has no name, and is the same at each.        rows_shared_back      they come back as they were
 --     rows_lent        rows lent as a `&mut [T]`.        rows_lent_back      they come back at the last list
 --     record_lent      a record lent as a `&mut T`.        record_lent_back      it comes back at its last value
@@ -14,7 +14,7 @@ use mathlib.Core.List.{List, [], ◌∷◌}
 use lib.ListN.{length}
 use seplogic.Ra.Ura.{Ura}
 use base.Fraction.{full_share}
-use mir.Syntax.{Callee, Place, Opd as Operand, Body, seq, call, named}
+use mir.Syntax.{Callee, Place, Opd as Operand, Body, seq, call, named, w8}
 use mir.Val.{Val, vptr}
 use base.Logic.{ent, sep, emp, ex, id⊢}
 use base.Fml.{Lft, GName, Share, Fml, ftrue, fsep, feq, fdead, flft, flent, fbor, fres, fhide}
@@ -30,12 +30,13 @@ use types.Share.{arr_parts}
 use denote.RattleType.{RattleType, owns, Denots, Valss}
 use denote.Laws.{Is, Ises, Are, Tells, Makess, shows, owns_make}
 use denote.Memory.{cell_at, part_of, part_at, mem, shares, shared_of}
-use denote.Copied.{Copied}
+use denote.Copied.{Copied, uint_Copied}
 use denote.Shadow.{pure_i}
 use denote.Slice.{slice_val, ShrSlice, Room, finally, shr_slice_at, elements_shared}
 use denote.Lend.{Held, lends_ref, ref_back, lends_slice, slice_back}
 use denote.Lends.{Lent, Lent-nothing, Lent-one, Lent-both, Lent-map}
 use denote.Shares.{Whole}
+use denote.Builtin.{u8}
 use denote.Index.{row, whole_out, whole_in}
 use denote.Exit.{Kept, yes, Last, left}
 use denote.Steps.{only, peeks, heard, nothing}
@@ -68,6 +69,10 @@ copied_free 𝓛 R copied t = copied.lends t
 -- and of a type a `&` to which is one borrow of the whole value
 pub whole_free : {M : Type 1} {𝓤 : Ura M} (𝓛 : Logic 𝓤) (R : RattleType) → Whole R → (t : Share) → LentFree 𝓛 R t
 whole_free 𝓛 R whole t x b o = subst (λ (s : Lft → Fml). Lent 𝓛 (part_at R t x b o) s) (sym (whole x b o)) (Lent-one 𝓛 (λ q. part_at R q x b o) t)
+
+-- so of a byte
+pub bytes_free : {M : Type 1} {𝓤 : Ura M} (𝓛 : Logic 𝓤) (t : Share) → LentFree 𝓛 u8 t
+bytes_free 𝓛 = copied_free 𝓛 u8 (uint_Copied 𝓛 w8)
 
 -- where each value is, so is a row of them
 row_free : {M : Type 1} {𝓤 : Ura M} (𝓛 : Logic 𝓤) (R : RattleType) (t : Share) → LentFree 𝓛 R t → (ys : List R.Denot) (b o : ℕ) → Lent 𝓛 (row R t ys b o) (elements_shared R ys b o)
