@@ -5,31 +5,39 @@
 pub mod output;
 
 ghost use Rattle.std.specs.Prelude.{◌≡◌, ◌+◌};
+ghost use Rattle.trace_text.specs.Text.{text_of};
+ghost use Rattle.reading.specs.Reading.{read_of};
 ghost use Rattle.answering.specs.Answers.{input_answered, plus_file, FilesAnswered, Answered};
 
 use output::Written;
-use reading::{Filled, TRACE_ROOM};
+use reading::{Read, TRACE_ROOM};
 use std::io::Input;
 use std::rt::{Env, Files};
 use whole_text::TEXT_ROOM;
 
+// The room for a trace and for its text.
+#[derive(Drop)]
+pub struct Room {
+    pub trace: [u8; TRACE_ROOM],
+    pub text: [u8; TEXT_ROOM],
+}
+
+// The text of what was read, laid in the room that it is lent.
+fn text_of<'a>(read: &Read, text: &'a mut [u8; TEXT_ROOM]) -> &'a [u8]
+    ensures { result.now ≡ text_of (read_of read.now) }
+{
+    let length = whole_text::lay_whole(read, &mut *text);
+    &text[..length]
+}
+
 // Answers the trace on standard input.
-fn from_input<R: Input + Print + Eprint>(
-    rt: &R,
-    trace: &mut [u8; TRACE_ROOM],
-    text: &mut [u8; TEXT_ROOM],
-) -> Written
+fn from_input<R: Input + Print + Eprint>(rt: &R, room: &mut Room) -> Written
     ensures { result ≡ input_answered result.all }
 {
-    let filled = reading::standard(rt, &mut *trace);
-    match filled {
-        Filled::Bytes(read) => {
-            let buf: &[u8] = trace;
-            let length = whole_text::lay_whole(read, buf, &mut *text);
-            let bytes: &[u8] = text;
-            output::input_text(rt, read, buf, &bytes[..length])
-        }
-        Filled::Failed(failure) => output::input_unreadable(rt, failure),
+    let Room { trace, text } = room;
+    match reading::standard(rt, trace) {
+        Ok(read) => output::input_text(rt, &read, text_of(&read, text)),
+        Err(failure) => output::input_unreadable(rt, &failure),
     }
 }
 
@@ -38,43 +46,29 @@ fn argument<R: Env + Files + Print + Eprint>(
     rt: &R,
     before: Written,
     i: usize,
-    trace: &mut [u8; TRACE_ROOM],
-    text: &mut [u8; TEXT_ROOM],
+    room: &mut Room,
 ) -> Written
     requires { i ≡ before.files + 1 }
     ensures { result ≡ plus_file before result.all }
 {
-    let mut room = io::buffer();
-    let filled = reading::argument(rt, i, &mut room, &mut *trace);
-    let name: &[u8] = &room;
-    match filled {
-        Filled::Bytes(read) => {
-            let buf: &[u8] = trace;
-            let length = whole_text::lay_whole(read, buf, &mut *text);
-            let bytes: &[u8] = text;
-            output::file_text(rt, before, read, name, buf, &bytes[..length])
-        }
-        Filled::Failed(failure) => output::file_unreadable(rt, before, failure, name),
+    let mut name = io::buffer();
+    let Room { trace, text } = room;
+    match reading::argument(rt, i, &mut name, trace) {
+        Ok(read) => output::file_text(rt, before, &read, text_of(&read, text)),
+        Err(failure) => output::file_unreadable(rt, before, &failure),
     }
 }
 
 // Answers the trace files that the arguments name, one after the other, up to the first whose answer can't be written.
-fn arguments<R: Env + Files + Print + Eprint>(
-    rt: &R,
-    count: usize,
-    trace: &mut [u8; TRACE_ROOM],
-    text: &mut [u8; TEXT_ROOM],
-) -> Written
+fn arguments<R: Env + Files + Print + Eprint>(rt: &R, count: usize, room: &mut Room) -> Written
     ensures { FilesAnswered count result }
 {
-    let mut written = output::none();
-    let mut i = 1;
-    while i < count {
-        written = argument(rt, written, i, &mut *trace, &mut *text);
-        if !output::all(written) {
+    let mut written = Written::none();
+    for i in 1..count {
+        written = argument(rt, written, i, &mut *room);
+        if !written.all() {
             return written;
         }
-        i += 1;
     }
     written
 }
@@ -83,13 +77,12 @@ fn arguments<R: Env + Files + Print + Eprint>(
 pub fn every<R: Env + Files + Input + Print + Eprint>(
     rt: &R,
     count: usize,
-    trace: &mut [u8; TRACE_ROOM],
-    text: &mut [u8; TEXT_ROOM],
+    room: &mut Room,
 ) -> Written
     ensures { Answered count result }
 {
     if count < 2 {
-        return from_input(rt, trace, text);
+        return from_input(rt, room);
     }
-    arguments(rt, count, trace, text)
+    arguments(rt, count, room)
 }

@@ -1,14 +1,10 @@
 // Writing the answers. What was written so far is told by a `Written`. Only the functions here make one: `none`, and those that write an answer, which add it to what was written before. So no other function can count an answer that was not written, or count one twice.
 ghost use Rattle.std.specs.Prelude.{◌≡◌, ◌+◌};
-ghost use Rattle.io.specs.Counts.{IsPrefixLen};
 ghost use Rattle.trace_text.specs.Text.{text_of};
 ghost use Rattle.reading.specs.Reading.{read_of};
-ghost use Rattle.answering.specs.Answers.{next, nothing, input_answered, plus_file};
+ghost use Rattle.answering.specs.Answers.{nothing, input_answered, plus_file};
 
 use reading::{Failure, Read};
-
-// The largest number that a counter holds.
-const MOST: usize = 18446744073709551615;
 
 // Whether standard input was answered, up to which argument the files were, and whether no write failed so far.
 #[derive(Clone, Copy)]
@@ -18,47 +14,37 @@ pub struct Written {
     all: bool,
 }
 
-// Nothing is written yet.
-pub(crate) fn none() -> Written
-    ensures { result ≡ nothing }
-{
-    Written {
-        input: false,
-        files: 0,
-        all: true,
-    }
-}
-
-// Whether no write failed so far.
-pub fn all(written: Written) -> bool
-    ensures { result ≡ written.all }
-{
-    written.all
-}
-
-// The number after n; a counter that is full stays so.
-fn count(n: usize) -> usize
-    ensures { result ≡ next n }
-{
-    if n < MOST { n + 1 } else { n }
-}
-
-// What was written, and the answer to a file after it, where that was written too. The second promise follows from the first: it is all that a function which writes can pass on.
-fn add_file(before: Written, done: bool) -> Written
-    ensures value { result ≡ plus_file before done }
-    ensures value_2 { result ≡ plus_file before result.all }
-{
-    if before.all & done {
-        return Written {
-            input: before.input,
-            files: count(before.files),
+impl Written {
+    // Nothing is written yet.
+    pub(crate) fn none() -> Written
+        ensures { result ≡ nothing }
+    {
+        Written {
+            input: false,
+            files: 0,
             all: true,
-        };
+        }
     }
-    Written {
-        input: before.input,
-        files: before.files,
-        all: false,
+
+    // Whether no write failed so far.
+    pub fn all(&self) -> bool
+        ensures { result ≡ self.now.all }
+    {
+        self.all
+    }
+
+    // What was written, and the answer to a file after it, where that was written too. The second promise follows from the first: it is all that a function which writes can pass on.
+    fn plus_file(self, done: bool) -> Written
+        ensures value { result ≡ plus_file self done }
+        ensures value_2 { result ≡ plus_file self result.all }
+    {
+        if self.all & done {
+            return Written {
+                files: self.files.saturating_add(1),
+                ..self
+            };
+        }
+        Written { all: false, ..self }
     }
 }
 
@@ -84,9 +70,9 @@ fn line<R: Print + Eprint>(rt: &R, all: bool, word: &[u8], path: &[u8]) -> bool 
 }
 
 // Writes the text of what was read from standard input, all of it and nothing else. What was read is lent so that the requirement can name it.
-pub(crate) fn input_text<R: Print + Eprint>(rt: &R, read: Read, buf: &[u8], bytes: &[u8]) -> Written
-    requires number_value { read.number ≡ 0 }
-    requires bytes_value { bytes.now ≡ text_of (read_of read buf.now) }
+pub(crate) fn input_text<R: Print + Eprint>(rt: &R, read: &Read, bytes: &[u8]) -> Written
+    requires number_value { read.now.number ≡ 0 }
+    requires bytes_value { bytes.now ≡ text_of (read_of read.now) }
     ensures { result ≡ input_answered result.all }
 {
     let done = put(rt, true, bytes);
@@ -98,11 +84,11 @@ pub(crate) fn input_text<R: Print + Eprint>(rt: &R, read: Read, buf: &[u8], byte
 }
 
 // Says that standard input can't be read. No line is due for it, so none is missing.
-pub(crate) fn input_unreadable<R: Eprint>(rt: &R, failure: Failure) -> Written
-    requires { failure.number ≡ 0 }
+pub(crate) fn input_unreadable<R: Eprint>(rt: &R, failure: &Failure) -> Written
+    requires { failure.now.number ≡ 0 }
     ensures { result ≡ input_answered result.all }
 {
-    let reason = reading::reason(failure);
+    let reason = failure.reason();
     let _ = eprintln!(rt; "standard input: {reason}");
     Written {
         input: true,
@@ -115,34 +101,27 @@ pub(crate) fn input_unreadable<R: Eprint>(rt: &R, failure: Failure) -> Written
 pub(crate) fn file_text<R: Print + Eprint>(
     rt: &R,
     before: Written,
-    read: Read,
-    name: &[u8],
-    buf: &[u8],
+    read: &Read,
     bytes: &[u8],
 ) -> Written
-    requires number_value { read.number ≡ before.files + 1 }
-    requires prefix_len { IsPrefixLen read.path name.now }
-    requires bytes_value { bytes.now ≡ text_of (read_of read buf.now) }
+    requires number_value { read.now.number ≡ before.files + 1 }
+    requires bytes_value { bytes.now ≡ text_of (read_of read.now) }
     ensures { result ≡ plus_file before result.all }
 {
-    let n = reading::path(read);
-    let named = line(rt, before.all, b"file ", &name[..n]);
+    let named = line(rt, before.all, b"file ", read.path());
     let done = put(rt, named, bytes);
-    add_file(before, done)
+    before.plus_file(done)
 }
 
 // Writes the line that says of the next file that it can't be read.
 pub(crate) fn file_unreadable<R: Print + Eprint>(
     rt: &R,
     before: Written,
-    failure: Failure,
-    name: &[u8],
+    failure: &Failure,
 ) -> Written
-    requires number_value { failure.number ≡ before.files + 1 }
-    requires prefix_len { IsPrefixLen failure.path name.now }
+    requires { failure.now.number ≡ before.files + 1 }
     ensures { result ≡ plus_file before result.all }
 {
-    let n = reading::failed_path(failure);
-    let done = line(rt, before.all, b"unreadable ", &name[..n]);
-    add_file(before, done)
+    let done = line(rt, before.all, b"unreadable ", failure.name());
+    before.plus_file(done)
 }

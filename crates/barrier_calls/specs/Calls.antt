@@ -1,11 +1,9 @@
 -- What sync, arrive and red ask for: document 01, "Named barriers".
 -- Assumes nothing.
-use Rattle.std.specs.Prelude.{Bool, true, false, not, cond, ◌||◌, ℕ, ◌-◌, ◌^◌, eqb, ltb}
+use Rattle.std.specs.Prelude.{Bool, true, false, not, cond, Option, Some, ◌||◌, ℕ, ◌-◌, ◌^◌, eqb, ltb}
 use Rattle.sets.specs.Sets.{size}
 use Rattle.block.specs.declared.Form.{Form}
 use Rattle.block.specs.declared.Form.TheVariants.{Idle, Plain, Popc, And, Or}
-use Rattle.block.specs.declared.Threads.{Threads}
-use Rattle.block.specs.declared.Threads.TheVariants.{Given}
 use Rattle.block.specs.declared.Call.{Call}
 
 -- the form that a selector names, 0 popc, 1 and, 2 or, 4 more complements; Idle where it names none
@@ -21,11 +19,11 @@ abbrev pub bad_selector : ℕ → Bool
 bad_selector s = not (eqb s 0 || (eqb s 1 || (eqb s 2 || (eqb s 4 || (eqb s 5 || eqb s 6)))))
 
 -- sync and red wait; arrive doesn't
-abbrev pub sync_call : Threads → Call
+abbrev pub sync_call : Option ℕ → Call
 sync_call t = record { form = Plain; threads = t; waits = true; lanes = 0 }
 
 abbrev pub arrive_call : ℕ → Call
-arrive_call t = record { form = Plain; threads = Given t; waits = false; lanes = 0 }
+arrive_call t = record { form = Plain; threads = Some t; waits = false; lanes = 0 }
 
-abbrev pub red_call : ℕ → Threads → ℕ → Call
+abbrev pub red_call : ℕ → Option ℕ → ℕ → Call
 red_call s t mask = record { form = form_of s; threads = t; waits = true; lanes = lanes_of s mask }

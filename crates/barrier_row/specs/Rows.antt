@@ -1,24 +1,22 @@
 -- One row of the tables: what an arrival finds in it and makes of it, whether it completes, and its result. Document 01, "Named barriers".
 -- Assumes nothing.
-use Rattle.std.specs.Prelude.{Bool, false, not, cond, ◌&&◌, ◌||◌, ℕ, ◌+◌, ◌*◌, ◌%◌, eqb, leb, ltb}
+use Rattle.std.specs.Prelude.{Bool, false, not, Option, Some, None, cond, ◌&&◌, ◌||◌, ℕ, ◌+◌, ◌*◌, ◌%◌, eqb, leb, ltb}
 use Rattle.sets.specs.Sets.{digit, size, part, put}
 use Rattle.block.specs.Tables.{lane_count, form_number, is_idle}
 use Rattle.block.specs.declared.Form.{Form}
 use Rattle.block.specs.declared.Form.TheVariants.{Idle, Plain, Popc, And, Or}
 use Rattle.block.specs.declared.Barrier.{Barrier}
-use Rattle.block.specs.declared.Threads.{Threads}
-use Rattle.block.specs.declared.Threads.TheVariants.{All, Given}
 use Rattle.block.specs.declared.Call.{Call}
 
 -- a row's thread count: 0 means all
-abbrev pub count_of : Threads → ℕ
-count_of All = 0
-count_of (Given t) = t
+abbrev pub count_of : Option ℕ → ℕ
+count_of None = 0
+count_of (Some t) = t
 
 -- 7: threads given, and 0, no multiple of 32, or above 32 times the warps
-abbrev pub bad_threads : ℕ → Threads → Bool
-bad_threads n All = false
-bad_threads n (Given t) = eqb t 0 || (not (eqb (t % lane_count) 0) || ltb (lane_count * n) t)
+abbrev pub bad_threads : ℕ → Option ℕ → Bool
+bad_threads n None = false
+bad_threads n (Some t) = eqb t 0 || (not (eqb (t % lane_count) 0) || ltb (lane_count * n) t)
 
 -- 9: barrier active with another thread count or form
 abbrev pub clashes : Barrier → Call → Bool

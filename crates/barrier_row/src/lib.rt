@@ -1,23 +1,20 @@
 // One barrier's row: what an arrival finds in it and makes of it, whether it completes, and its result.
 #![tactic(auto)]
 
-ghost use Rattle.std.specs.Prelude.{◌≡◌, cond, ◌+◌};
+ghost use Rattle.std.specs.Prelude.{◌≡◌, cond};
 ghost use Rattle.sets.specs.Sets.{put};
-ghost use Rattle.barrier_row.specs.Rows.{count_of, bad_threads, clashes as clashes_of, up_to_largest, arrived_row, completes as completes_of, result_of};
+ghost use Rattle.barrier_row.specs.Rows.{count_of, bad_threads, clashes as clashes_of, arrived_row, completes as completes_of, result_of};
 
-use block::{Barrier, Call, Form, LANE_COUNT, Threads};
+use block::{Barrier, Call, Form, LANE_COUNT};
 
 // The largest number of a row or a tally, at which a sum stays.
-pub const LARGEST: u32 = 4294967295;
+pub const LARGEST: u32 = u32::MAX;
 
 // A row's thread count, 0 for all.
-fn count_of(t: Threads) -> u16
+fn count_of(t: Option<u16>) -> u16
     ensures { result ≡ count_of t }
 {
-    match t {
-        Threads::All => 0,
-        Threads::Given(n) => n,
-    }
+    t.unwrap_or(0)
 }
 
 // The set, with warp w in it if it waits.
@@ -27,29 +24,16 @@ fn put_if(set: u32, w: u8, waits: bool) -> u32
     if waits { sets::put(set, w) } else { set }
 }
 
-// The sum, which stays at the largest number.
-fn sum_up_to_largest(a: u32, b: u32) -> u32
-    ensures { result ≡ up_to_largest (a + b) }
-{
-    if b <= LARGEST - a { a + b } else { LARGEST }
-}
-
 // The barrier's row with warp w arrived.
 pub fn arrived_row(r: Barrier, w: u8, c: Call) -> Barrier
     ensures { result ≡ arrived_row r w c }
 {
-    let form = c.form;
-    let asked = c.threads;
-    let threads = count_of(asked);
-    let arrived = sets::put(r.arrived, w);
-    let waiting = put_if(r.waiting, w, c.waits);
-    let trues = sum_up_to_largest(r.trues, c.lanes);
     Barrier {
-        form,
-        threads,
-        arrived,
-        waiting,
-        trues,
+        form: c.form,
+        threads: count_of(c.threads),
+        arrived: sets::put(r.arrived, w),
+        waiting: put_if(r.waiting, w, c.waits),
+        trues: r.trues.saturating_add(c.lanes),
     }
 }
 
@@ -57,13 +41,11 @@ pub fn arrived_row(r: Barrier, w: u8, c: Call) -> Barrier
 pub fn result_of(r: Barrier) -> u32
     ensures { result ≡ result_of r }
 {
-    let f = r.form;
-    match f {
-        Form::Idle => 0,
-        Form::Plain => 0,
+    match r.form {
+        Form::Idle | Form::Plain => 0,
         Form::Popc => r.trues,
-        Form::And => (r.trues == LANE_COUNT * sets::size(r.arrived)) as u32,
-        Form::Or => (0 < r.trues) as u32,
+        Form::And => u32::from(r.trues == LANE_COUNT * sets::size(r.arrived)),
+        Form::Or => u32::from(0 < r.trues),
     }
 }
 
@@ -74,29 +56,23 @@ pub fn completes(alive: u32, r: Barrier) -> bool
     if r.threads == 0 {
         return sets::part(alive, r.arrived);
     }
-    LANE_COUNT * sets::size(r.arrived) == r.threads as u32
+    LANE_COUNT * sets::size(r.arrived) == u32::from(r.threads)
 }
 
 // Whether line 7 applies to the thread count, in a block of so many warps.
-pub fn bad_threads(warps: u8, t: Threads) -> bool
+pub fn bad_threads(warps: u8, t: Option<u16>) -> bool
     ensures { result ≡ bad_threads warps t }
 {
-    match t {
-        Threads::All => false,
-        Threads::Given(n) => {
-            let n = n as u32;
-            (n == 0) | (!(n % LANE_COUNT == 0) | (LANE_COUNT * (warps as u32) < n))
-        }
-    }
+    let Some(n) = t else {
+        return false;
+    };
+    let n = u32::from(n);
+    (n == 0) | (n % LANE_COUNT != 0) | (LANE_COUNT * u32::from(warps) < n)
 }
 
 // Whether the barrier's row is active with another thread count or form.
 pub fn clashes(r: Barrier, c: Call) -> bool
     ensures { result ≡ clashes_of r c }
 {
-    let f = r.form;
-    let g = c.form;
-    let t = c.threads;
-    let form = block::form_number(f);
-    !(form == 0) & (!(r.threads == count_of(t)) | !(form == block::form_number(g)))
+    (r.form != Form::Idle) & ((r.threads != count_of(c.threads)) | (r.form != c.form))
 }

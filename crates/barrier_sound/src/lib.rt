@@ -4,7 +4,7 @@
 ghost use Rattle.std.specs.Prelude.{◌≡◌};
 ghost use Rattle.block.specs.Tables.{sets_inside, waiting_arrived, idle_zero, active_arrived, active_count, count_open, all_open, reduction_waits, plain_none, row_sound};
 
-use block::{Barrier, LANE_COUNT};
+use block::{Barrier, Form, LANE_COUNT};
 
 // Whether the row's sets name only warps of a block of n.
 fn sets_inside(n: u8, r: Barrier) -> bool
@@ -21,69 +21,62 @@ fn waiting_arrived(r: Barrier) -> bool
 }
 
 // Whether the row, if it is idle, is all zero.
+#[tactic(auto, unfolding(folds::specs::Folds::every))]
 fn idle_zero(r: Barrier) -> bool
     ensures { result ≡ idle_zero r }
 {
-    let f = r.form;
-    !(block::form_number(f) == 0)
-        | ((r.threads == 0) & (r.arrived == 0) & (r.waiting == 0) & (r.trues == 0))
+    (r.form != Form::Idle) | (r == block::idle_row())
 }
 
 // Whether the row, if it is active, has an arrival.
 fn active_arrived(r: Barrier) -> bool
     ensures { result ≡ active_arrived r }
 {
-    let f = r.form;
-    (block::form_number(f) == 0) | !(r.arrived == 0)
+    (r.form == Form::Idle) | (r.arrived != 0)
 }
 
 // Whether the row, if it is active, has a thread count of 0 or one that a block of n warps can give.
 fn active_count(n: u8, r: Barrier) -> bool
     ensures { result ≡ active_count n r }
 {
-    let f = r.form;
-    let threads = r.threads as u32;
-    let possible = (threads % LANE_COUNT == 0) & (threads <= LANE_COUNT * (n as u32));
-    (block::form_number(f) == 0) | ((threads == 0) | possible)
+    let threads = u32::from(r.threads);
+    let possible = (threads % LANE_COUNT == 0) & (threads <= LANE_COUNT * u32::from(n));
+    (r.form == Form::Idle) | (threads == 0) | possible
 }
 
 // Whether the row, if it is active with a count, has fewer lanes arrived.
 fn count_open(r: Barrier) -> bool
     ensures { result ≡ count_open r }
 {
-    let f = r.form;
-    let threads = r.threads as u32;
-    let open = LANE_COUNT * sets::size(r.arrived) < threads;
-    (block::form_number(f) == 0) | ((threads == 0) | open)
+    let open = LANE_COUNT * sets::size(r.arrived) < u32::from(r.threads);
+    (r.form == Form::Idle) | (r.threads == 0) | open
 }
 
 // Whether the row, if it is active for all threads, lacks one of live and has every arrival waiting.
 fn all_open(live: u32, r: Barrier) -> bool
     ensures { result ≡ all_open live r }
 {
-    let f = r.form;
-    (block::form_number(f) == 0)
-        | (!(r.threads == 0) | (!sets::part(live, r.arrived) & (r.waiting == r.arrived)))
+    let open = !sets::part(live, r.arrived) & (r.waiting == r.arrived);
+    (r.form == Form::Idle) | (r.threads != 0) | open
 }
 
 // Whether the row, if it is a reduction, has every arrival waiting and at most 32 true lanes per arrival.
 fn reduction_waits(r: Barrier) -> bool
     ensures { result ≡ reduction_waits r }
 {
-    let f = r.form;
     let most = LANE_COUNT * sets::size(r.arrived);
-    !(1 < block::form_number(f)) | ((r.waiting == r.arrived) & (r.trues <= most))
+    !block::is_reduction(r.form) | ((r.waiting == r.arrived) & (r.trues <= most))
 }
 
 // Whether the row, if it is plain, has no true lanes.
 fn plain_none(r: Barrier) -> bool
     ensures { result ≡ plain_none r }
 {
-    let f = r.form;
-    !(block::form_number(f) == 1) | (r.trues == 0)
+    (r.form != Form::Plain) | (r.trues == 0)
 }
 
 // Whether a barrier row is sound in a block of n warps, of which those of live have not exited.
+#[tactic(auto, unfolding(folds::specs::Folds::every))]
 pub fn row_sound(n: u8, live: u32, r: Barrier) -> bool
     ensures { result ≡ row_sound n live r }
 {

@@ -2,7 +2,9 @@
 #![tactic(auto)]
 
 ghost use Rattle.std.specs.Prelude.{◌≡◌, ◌&&◌, eqb};
-ghost use Rattle.block.specs.Tables.{form_number, is_ready, fresh_warp, idle, fresh_block};
+ghost use Rattle.block.specs.Tables.{form_number, is_reduction, is_ready, fresh_warp, idle, fresh_block};
+
+use refusals::Refusal;
 
 // A block has at most 32 warps.
 pub const MOST_WARPS: u8 = 32;
@@ -13,20 +15,20 @@ pub const LANE_COUNT: u32 = 32;
 // There are sixteen named barriers.
 pub const BARRIER_COUNT: u8 = 16;
 
-#[derive(Clone, Copy)]
+#[derive(Clone, Copy, PartialEq, Eq, Debug)]
 pub enum Status {
     Ready,
     Waiting(u8),
     Exited,
 }
 
-#[derive(Clone, Copy)]
+#[derive(Clone, Copy, PartialEq, Eq, Debug)]
 pub struct Warp {
     pub status: Status,
     pub result: u32,
 }
 
-#[derive(Clone, Copy)]
+#[derive(Clone, Copy, PartialEq, Eq, Debug)]
 pub enum Form {
     Idle,
     Plain,
@@ -36,7 +38,7 @@ pub enum Form {
 }
 
 // A barrier's row. Thread count 0 means all.
-#[derive(Clone, Copy)]
+#[derive(Clone, Copy, PartialEq, Eq, Debug)]
 pub struct Barrier {
     pub form: Form,
     pub threads: u16,
@@ -45,39 +47,32 @@ pub struct Barrier {
     pub trues: u32,
 }
 
-#[derive(Clone, Copy)]
+#[derive(Clone, Copy, PartialEq, Eq, Debug)]
 pub struct Block {
     pub warps: u8,
     pub rows: [Warp; MOST_WARPS as usize],
     pub barriers: [Barrier; BARRIER_COUNT as usize],
 }
 
-// The thread count that a step asks for.
-#[derive(Clone, Copy)]
-pub enum Threads {
-    All,
-    Given(u16),
-}
-
-// What a named-barrier step asks for: its form (Idle where its selector names none), its thread count, whether it waits, its true lanes.
-#[derive(Clone, Copy)]
+// What a named-barrier step asks for: its form (Idle where its selector names none), its thread count (None for all), whether it waits, its true lanes.
+#[derive(Clone, Copy, PartialEq, Eq, Debug)]
 pub struct Call {
     pub form: Form,
-    pub threads: Threads,
+    pub threads: Option<u16>,
     pub waits: bool,
     pub lanes: u32,
 }
 
-// What a step answers.
-#[derive(Clone, Copy)]
-pub enum Verdict {
-    Refused(u8),
-    Accepted {
-        value: u64,
-        done: bool,
-        released: u32,
-    },
+// What an accepted step answers: its value, whether it completes a barrier or a phase, and the warps that it releases.
+#[derive(Clone, Copy, Debug, PartialEq, Eq)]
+pub struct Accepted {
+    pub value: u64,
+    pub done: bool,
+    pub released: u32,
 }
+
+// What a step answers.
+pub type Verdict = Result<Accepted, Refusal>;
 
 // A verdict, and the block after the step.
 #[derive(Clone, Copy)]
@@ -113,40 +108,32 @@ pub fn idle_row() -> Barrier
 pub fn fresh(warps: u8) -> Block
     ensures { result ≡ fresh_block warps }
 {
-    let warp = fresh_warp();
-    let barrier = idle_row();
-    let rows = [warp; MOST_WARPS as usize];
-    let barriers = [barrier; BARRIER_COUNT as usize];
     Block {
         warps,
-        rows,
-        barriers,
+        rows: [fresh_warp(); MOST_WARPS as usize],
+        barriers: [idle_row(); BARRIER_COUNT as usize],
     }
 }
 
-// The number of a form.
+// The number of a form, in their order.
 pub fn form_number(f: Form) -> u8
     ensures { result ≡ form_number f }
 {
-    match f {
-        Form::Idle => 0,
-        Form::Plain => 1,
-        Form::Popc => 2,
-        Form::And => 3,
-        Form::Or => 4,
-    }
+    f as u8
+}
+
+// Whether the form is popc, and, or.
+pub fn is_reduction(f: Form) -> bool
+    ensures { result ≡ is_reduction f }
+{
+    1 < form_number(f)
 }
 
 // Whether the warp is ready.
 pub fn is_ready(row: Warp) -> bool
     ensures { result ≡ is_ready row.status }
 {
-    let s = row.status;
-    match s {
-        Status::Ready => true,
-        Status::Waiting(_) => false,
-        Status::Exited => false,
-    }
+    row.status == Status::Ready
 }
 
 // Whether the warp is ready with result 0, as the rows past the number of warps must be.

@@ -2,51 +2,56 @@
 #![tactic(auto)]
 
 ghost use Rattle.std.specs.Prelude.{◌≡◌};
-ghost use Rattle.folds.specs.Folds.{lowest};
+ghost use Rattle.refusals.specs.Refusals.{judged};
 ghost use Rattle.block_steps.specs.Steps.{call_lines};
 ghost use Rattle.block_steps.specs.Changes.{arrival_moved};
 
-use block::{BARRIER_COUNT, Barrier, Call, MOST_WARPS, Status};
+use block::{BARRIER_COUNT, Barrier, Call, Form, Status};
 use block_steps::Moved;
+use refusals::Refusal;
 
-// The lowest of lines 6 to 10 that applies to the call of warp w at barrier k, whose row is r, in a block of so many warps, and 0 if none does.
-fn refusal(warps: u8, r: Barrier, w: u8, k: u8, c: Call) -> u8
-    ensures { result ≡ lowest (call_lines warps r w k c) }
+// Refuses the call of warp w at barrier k, whose row is r, in a block of so many warps, by the lowest of lines 6 to 10 that applies.
+#[tactic(auto, unfolding(folds::specs::Folds::lowest))]
+fn refusal(warps: u8, r: Barrier, w: u8, k: u8, c: Call) -> Result<(), Refusal>
+    ensures { result ≡ judged (call_lines warps r w k c) }
 {
     if BARRIER_COUNT <= k {
-        return 6;
+        return Err(Refusal::NoSuchBarrier);
     }
-    let t = c.threads;
-    if barrier_row::bad_threads(warps, t) {
-        return 7;
+    if barrier_row::bad_threads(warps, c.threads) {
+        return Err(Refusal::BadThreads);
     }
-    let f = c.form;
-    if block::form_number(f) == 0 {
-        return 8;
+    if c.form == Form::Idle {
+        return Err(Refusal::BadSelector);
     }
     if barrier_row::clashes(r, c) {
-        return 9;
+        return Err(Refusal::Clashes);
     }
     if sets::has(r.arrived, w) {
-        return 10;
+        return Err(Refusal::AlreadyArrived);
     }
-    0
+    Ok(())
 }
 
 // Sync, arrive and red: what the arrival of warp w at barrier k changes in a block of so many warps, of which those of alive have not exited, where this is the row of the barrier.
-pub fn arrival(warps: u8, alive: u32, barrier: Barrier, w: u8, k: u8, c: Call) -> Moved
+#[tactic(auto, unfolding(block_steps::specs::Changes::arrival_moved))]
+pub fn arrival(
+    warps: u8,
+    alive: u32,
+    barrier: Barrier,
+    w: u8,
+    k: u8,
+    c: Call,
+) -> Result<Moved, Refusal>
     ensures { result ≡ arrival_moved warps alive barrier w k c }
 {
-    let n = refusal(warps, barrier, w, k, c);
-    if n != 0 {
-        return block_steps::refuse(n);
-    }
+    refusal(warps, barrier, w, k, c)?;
     let r = barrier_row::arrived_row(barrier, w, c);
     if barrier_row::completes(alive, r) {
-        return block_steps::complete(MOST_WARPS as usize, Status::Ready, k as usize, r);
+        return Ok(block_steps::complete(None, k, r));
     }
     if c.waits {
-        return block_steps::go_on(w as usize, Status::Waiting(k), k as usize, r);
+        return Ok(block_steps::go_on(Some((w, Status::Waiting(k))), Some((k, r))));
     }
-    block_steps::go_on(MOST_WARPS as usize, Status::Ready, k as usize, r)
+    Ok(block_steps::go_on(None, Some((k, r))))
 }

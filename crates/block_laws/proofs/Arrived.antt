@@ -6,14 +6,13 @@ use Prim.Native.Nat.{ℕ, ◌+◌, ◌*◌, ◌%◌, ◌^◌, ◌<◌, ◌≤◌
 use native.Mathlib.Omega.{arith}
 use lib.Dec.{eqb}
 use borrow.Author.Tests.{eqb-true, eqb-false, lt-ltb, ltb-false, le-leb, not-false}
+use Rattle.std.specs.Prelude.{Option, Some, None}
 use Rattle.sets.specs.Sets.{has, put, size}
 use Rattle.sets.proofs.Sets.{has_none, has_put, has_put_own, put_lt, part_has, part_of, size_le, size_none, size_put}
 use Rattle.block.specs.Tables.{most_warps, lane_count, barrier_at, form_number, is_idle, is_plain, is_reduction}
 use Rattle.barrier_row.specs.Rows.{count_of, bad_threads, largest, up_to_largest, arrived_row, completes}
 use Rattle.block.specs.declared.Barrier.{Barrier}
 use Rattle.block.specs.declared.Block.{Block}
-use Rattle.block.specs.declared.Threads.{Threads}
-use Rattle.block.specs.declared.Threads.TheVariants.{All, Given}
 use Rattle.block.specs.declared.Call.{Call}
 use Rattle.block_laws.specs.Sound.{Asks}
 use Rattle.folds.proofs.General.{by_test, neither}
@@ -37,17 +36,17 @@ sum_fits n h = rw (le-leb n largest h)
 
 module _ (b : Block) where
   -- a count that is not refused is all, or a multiple of 32 up to 32 times the warps
-  count_multiple : (t : Threads) → bad_threads b.warps t ≡ false → eqb (count_of t) 0 ≡ false → count_of t % lane_count ≡ 0
-  count_multiple All e z = absurd (false≢true (sym z))
-  count_multiple (Given t) e z = eqb-true (t % lane_count) 0 (not-false _ (neither _ _ (neither (eqb t 0) _ e).1).0)
+  count_multiple : (t : Option ℕ) → bad_threads b.warps t ≡ false → eqb (count_of t) 0 ≡ false → count_of t % lane_count ≡ 0
+  count_multiple None e z = absurd (false≢true (sym z))
+  count_multiple (Some t) e z = eqb-true (t % lane_count) 0 (not-false _ (neither _ _ (neither (eqb t 0) _ e).1).0)
 
-  count_most : (t : Threads) → bad_threads b.warps t ≡ false → count_of t ≤ lane_count * b.warps
-  count_most All e = omega arith
-  count_most (Given t) e = ltb-false (lane_count * b.warps) t (neither (not (eqb (t % lane_count) 0)) _ (neither (eqb t 0) _ e).1).1
+  count_most : (t : Option ℕ) → bad_threads b.warps t ≡ false → count_of t ≤ lane_count * b.warps
+  count_most None e = omega arith
+  count_most (Some t) e = ltb-false (lane_count * b.warps) t (neither (not (eqb (t % lane_count) 0)) _ (neither (eqb t 0) _ e).1).1
 
-  count_all : (t : Threads) → bad_threads b.warps t ≡ false → eqb (count_of t) 0 ≡ true → t ≡ All
-  count_all All e z = refl
-  count_all (Given t) e z = absurd (false≢true (sym (neither (eqb t 0) _ e).0 ∙ z))
+  count_all : (t : Option ℕ) → bad_threads b.warps t ≡ false → eqb (count_of t) 0 ≡ true → t ≡ None
+  count_all None e z = refl
+  count_all (Some t) e z = absurd (false≢true (sym (neither (eqb t 0) _ e).0 ∙ z))
 
 -- ---- what a set has with warp w put in or not
 

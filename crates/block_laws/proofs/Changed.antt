@@ -13,8 +13,8 @@ use lib.Seq.{get_or-set_same, get_or-set_other}
 use borrow.Author.Tests.{ne_eqb, eqb-true, lt-ltb}
 use Rattle.sets.specs.Sets.{has}
 use Rattle.sets.proofs.Sets.{has_none, has_below, set_of_cong}
-use Rattle.block.specs.Tables.{most_warps, barrier_count, fresh_warp, idle, warp_at, barrier_at, is_reduction, is_ready, is_exited, waits_at, live_of, warp_sound, sound_block}
-use Rattle.barrier_row.specs.Rows.{result_of}
+use Rattle.block.specs.Tables.{most_warps, barrier_count, fresh_warp, idle, warp_at, barrier_at, is_ready, is_exited, waits_at, live_of, warp_sound, sound_block}
+use Rattle.std.specs.Prelude.{Some, None, unwrap_or}
 use Rattle.block_steps.specs.Steps.{released_warp, released_warps, freed_by, completed}
 use Rattle.block.specs.declared.Status.{Status}
 use Rattle.block.specs.declared.Status.TheVariants.{Ready, Waiting, Exited}
@@ -82,7 +82,12 @@ module _ (b : Block) (k : ℕ) (r : Barrier) (ws : List Warp) (shape : Shaped b)
 
 -- the row of a warp that it releases
 abbrev freed : Barrier → Warp → Warp
-freed r x = record { status = Ready; result = cond (is_reduction r.form) (result_of r) x.result }
+freed r x = record { status = Ready; result = unwrap_or (freed_by r).result x.result }
+
+-- a red's result is given, and else a warp keeps its own
+pub given : (t : Bool) (n d : ℕ) → unwrap_or (cond t (Some n) None) d ≡ cond t n d
+given true n d = refl
+given false n d = refl
 
 -- a warp that is ready or waits at barrier k has not exited, and waits nowhere else
 free_exited : (s : Status) (k : ℕ) → is_ready s || waits_at s k ≡ true → is_exited s ≡ false

@@ -13,7 +13,7 @@ use borrow.Author.Tests.{eq-eqb, ne_eqb, eqb-true}
 use Rattle.folds.proofs.Folds.{every_at}
 use Rattle.sets.specs.Sets.{has, less}
 use Rattle.sets.proofs.Sets.{has_less, less_lt, set_of_lt, ext}
-use Rattle.block.specs.Tables.{most_warps, barrier_count, fresh_warp, idle, warp_at, barrier_at, is_exited, live_of, sound_block}
+use Rattle.block.specs.Tables.{is_reduction, most_warps, barrier_count, fresh_warp, idle, warp_at, barrier_at, is_exited, live_of, sound_block}
 use Rattle.barrier_row.specs.Rows.{arrived_row, result_of}
 use Rattle.block_steps.proofs.Changes.{live_other, live_own}
 use Rattle.block_steps.specs.Steps.{released_warp, freed_by, completed, goes_on, without, opens, opened}
@@ -21,14 +21,15 @@ use Rattle.block.specs.declared.Status.TheVariants.{Ready, Waiting}
 use Rattle.block.specs.declared.Warp.{Warp}
 use Rattle.block.specs.declared.Barrier.{Barrier}
 use Rattle.block.specs.declared.Block.{Block}
-use Rattle.block.specs.declared.Verdict.TheVariants.{Accepted}
+use Rattle.block.specs.Verdicts.{accepted}
+use Rattle.block.proofs.Verdicts.{same, undone}
 use Rattle.block_laws.specs.Sound.{Shaped}
 use Rattle.block_laws.specs.Changes.{LeavesRefused, RefusedLeave, ExitCompletesOne, Releases, ArrivalReleases, ReleasesSet, ArriveReleases, ExitReleases, ReleasesNone, NoneReleased, GivesResults, ResultsGiven, LeavesRow, RowsLeft, CountedSurvive, LeavesWarp, WarpsLeft, ArrivalKeepsLive, ExitTakesOut}
 use Rattle.folds.proofs.General.{first_holds, firsts_leaves, set_either}
 use Rattle.block_laws.proofs.Facts.{Free, sound_at, sound_but, free_says}
 use Rattle.block_laws.proofs.Ends.{arrival_ends, exit_ends}
 use Rattle.block_laws.proofs.Arrived.{has_grown}
-use Rattle.block_laws.proofs.Changed.{same_live, completed_live, released_at}
+use Rattle.block_laws.proofs.Changed.{same_live, completed_live, given, released_at}
 use Rattle.block_laws.proofs.Arrival.{arrived_free}
 use Rattle.block_laws.proofs.Exit.{opens_one, left_shape, left_free}
 
@@ -50,8 +51,8 @@ not_waiting : (b : Block) (w k : ℕ) → sound_block b ≡ true → Free b w �
 not_waiting b w k ok free h = (sound_at b ok k h).agree w (omega (arith, free.warp, (sound_but b ok k).high)) ∙ rw free.ready
 
 -- what a completed barrier releases is its row's waiting set
-releases : (b : Block) (k : ℕ) (r : Barrier) (value released : ℕ) → (completed b k r).verdict ≡ Accepted value true released → released ≡ r.waiting
-releases b k r value released e = cc
+releases : (b : Block) (k : ℕ) (r : Barrier) (value released : ℕ) → (completed b k r).verdict ≡ accepted value true released → released ≡ r.waiting
+releases b k r value released e = sym (same e).released
 
 pub arrival_releases : ArrivalReleases
 arrival_releases b w k c ok =
@@ -59,7 +60,7 @@ arrival_releases b w k c ok =
     (λ j value released v e.
     rw (releases b k (arrived_row (barrier_at b k) w c) value released e)
     (has_grown (barrier_at b k).waiting w v c.waits (omega (arith, j.free.warp, (sound_but b ok k).high))))
-    (λ j o value released v e. cc)
+    (λ j o value released v e. absurd (undone e))
 
 pub arrive_releases : ArriveReleases
 arrive_releases b w k c ok waits =
@@ -67,7 +68,7 @@ arrive_releases b w k c ok waits =
     (λ j value released e.
     let q : released ≡ (barrier_at b k).waiting = rw waits at (releases b k (arrived_row (barrier_at b k) w c) value released e) in
     (q, rw q (not_waiting b w k ok j.free j.barrier)))
-    (λ j o value released e. (cc, cc))
+    (λ j o value released e. absurd (undone e))
 
 pub exit_releases : ExitReleases
 exit_releases b w ok =
@@ -75,12 +76,12 @@ exit_releases b w ok =
     (λ f l value released e.
     let q = releases (without b w) (opened (without b w)) (barrier_at b (opened (without b w))) value released e in
     (q, rw q (not_waiting b w (opened (without b w)) ok f l)))
-    (λ f l value released e. (cc, cc))
+    (λ f l value released e. absurd (undone e))
 
 pub none_released : NoneReleased
 none_released = record {
-  arrival = λ b w k c. arrival_ends ReleasesNone b w k c (λ n value released e. cc) (λ j value released e. cc) (λ j o value released e. cc);
-  exit = λ b w. exit_ends ReleasesNone b w (λ n value released e. cc) (λ f l value released e. cc) (λ f l value released e. cc);
+  arrival = λ b w k c. arrival_ends ReleasesNone b w k c (λ n value released e. cc) (λ j value released e. absurd (undone (sym e))) (λ j o value released e. sym (same e).released);
+  exit = λ b w. exit_ends ReleasesNone b w (λ n value released e. cc) (λ f l value released e. absurd (undone (sym e))) (λ f l value released e. sym (same e).released);
 }
 
 -- ---- results
@@ -88,19 +89,18 @@ none_released = record {
 -- a completed barrier gives them, whatever block it starts from
 gives_results : (b : Block) (k : ℕ) (r : Barrier) → Shaped b → GivesResults r.form b (completed b k r)
 gives_results b k r shape value released v h e =
-    let p : result_of r ≡ value = cc in
-    let q : r.waiting ≡ released = cc in
-    rw (← p, ← q) (released_at b r v shape h)
+    rw (← (same e).value, ← (same e).released)
+    (released_at b r v shape h ∙ (λ i. cond (has r.waiting v) (record { status = Ready; result = given (is_reduction r.form) (result_of r) (warp_at b v).result i }) (warp_at b v)))
 
 pub results_given : ResultsGiven
 results_given = record {
   arrival = λ b w k c shape.
       arrival_ends (GivesResults c.form b) b w k c (λ n value released v h e. cc)
-      (λ j. gives_results b k (arrived_row (barrier_at b k) w c) shape) (λ j o value released v h e. cc);
+      (λ j. gives_results b k (arrived_row (barrier_at b k) w c) shape) (λ j o value released v h e. absurd (undone e));
   exit = λ b w shape.
       exit_ends (GivesResults (barrier_at b (opened (without b w))).form (without b w)) b w (λ n value released v h e. cc)
       (λ f l. gives_results (without b w) (opened (without b w)) (barrier_at b (opened (without b w))) (left_shape b w shape))
-      (λ f l value released v h e. cc);
+      (λ f l value released v h e. absurd (undone e));
 }
 
 -- ---- what stays
@@ -123,7 +123,7 @@ counted_survive b w k counted =
 -- a completed barrier leaves the warps that it does not release
 unreleased : (b : Block) (k v : ℕ) (r : Barrier) → LeavesWarp b v (completed b k r)
 unreleased b k v r value released done e h =
-    let q : r.waiting ≡ released = cc in
+    let q : r.waiting ≡ released = (same e).released in
     firsts_leaves (released_warp (freed_by r)) b.rows most_warps 0 v fresh_warp (λ x. rw (zero-add, q, h))
 
 -- an arrival that goes on leaves the other warps, and its own where it does not wait
@@ -172,7 +172,7 @@ left_live b w shape =
 
 pub exit_takes_out : ExitTakesOut
 exit_takes_out b w shape ok =
-    exit_ends (λ t. (value released : ℕ) (done : Bool) → t.verdict ≡ Accepted value done released → live_of t.block ≡ less (live_of b) w)
+    exit_ends (λ t. (value released : ℕ) (done : Bool) → t.verdict ≡ accepted value done released → live_of t.block ≡ less (live_of b) w)
     b w (λ n value released done e. cc)
     (λ f l value released done e.
     completed_live (without b w) (opened (without b w)) (barrier_at b (opened (without b w))) (left_free b w ok f shape l) ∙ left_live b w shape)

@@ -12,7 +12,7 @@ use Rattle.block_steps.specs.Steps.{exit_lines, arrival_lines, completed, goes_o
 use Rattle.block.specs.declared.Barrier.{Barrier}
 use Rattle.block.specs.declared.Block.{Block}
 use Rattle.block.specs.declared.Call.{Call}
-use Rattle.block.specs.declared.Verdict.TheVariants.{Accepted}
+use Rattle.block.specs.Verdicts.{accepted}
 use Rattle.block.specs.declared.Turn.{Turn}
 use Rattle.block_laws.proofs.Facts.{Free, Joins, free_says, joins_says}
 
@@ -39,12 +39,12 @@ module _ (P : Turn → Type 0) (b : Block) (w : ℕ) where
 
   pub exit_ends : ((n : ℕ) → P (refused b n))
       → (Free b w → opened left < barrier_count → P (completed left (opened left) (barrier_at left (opened left))))
-      → (Free b w → barrier_count ≤ opened left → P (record { verdict = Accepted 0 false 0; block = left })) → P (exit b w)
+      → (Free b w → barrier_count ≤ opened left → P (record { verdict = accepted 0 false 0; block = left })) → P (exit b w)
   unfolding exit
   exit_ends r d n = go (eqb (lowest (exit_lines b w)) 0) (ltb (opened left) barrier_count) refl refl
     where
       go : (t u : Bool) → eqb (lowest (exit_lines b w)) 0 ≡ t → ltb (opened left) barrier_count ≡ u
-          → P (cond t (cond u (completed left (opened left) (barrier_at left (opened left))) (record { verdict = Accepted 0 false 0; block = left }))
+          → P (cond t (cond u (completed left (opened left) (barrier_at left (opened left))) (record { verdict = accepted 0 false 0; block = left }))
           (refused b (lowest (exit_lines b w))))
       go true true e f = d (free_says b w (eqb-true _ _ e)) (ltb-true _ _ f)
       go true false e f = n (free_says b w (eqb-true _ _ e)) (ltb-false _ _ f)

@@ -1,6 +1,7 @@
 -- What is claimed of a step: what it completes and releases, what it leaves as it was, and who has not exited after it.
 -- Assumes nothing.
-use Rattle.std.specs.Prelude.{◌≡◌, Bool, true, false, cond, ◌&&◌, ◌||◌, ℕ, ◌<◌, eqb}
+use Rattle.std.specs.Prelude.{◌≡◌, Bool, true, false, cond, ◌&&◌, ◌||◌, ℕ, ◌<◌, eqb, Err}
+use Rattle.refusals.specs.declared.Refusal.{Refusal}
 use Rattle.folds.specs.Folds.{lowest}
 use Rattle.sets.specs.Sets.{has, less}
 use Rattle.block.specs.Tables.{most_warps, barrier_count, warp_at, barrier_at, is_reduction, live_of, sound_block}
@@ -9,7 +10,7 @@ use Rattle.block.specs.declared.Status.TheVariants.{Ready}
 use Rattle.block.specs.declared.Form.{Form}
 use Rattle.block.specs.declared.Block.{Block}
 use Rattle.block.specs.declared.Call.{Call}
-use Rattle.block.specs.declared.Verdict.TheVariants.{Refused, Accepted}
+use Rattle.block.specs.Verdicts.{accepted}
 use Rattle.block.specs.declared.Turn.{Turn}
 use Rattle.block_laws.specs.Sound.{Shaped}
 
@@ -17,7 +18,7 @@ use Rattle.block_laws.specs.Sound.{Shaped}
 
 -- a turn that is refused leaves the block
 abbrev pub LeavesRefused : Block → Turn → Type 0
-LeavesRefused b t = (n : ℕ) → t.verdict ≡ Refused n → t.block ≡ b
+LeavesRefused b t = (r : Refusal) → t.verdict ≡ Err r → t.block ≡ b
 
 -- so a refused arrival leaves it, and a refused exit
 pub record RefusedLeave : Type 0 where
@@ -34,7 +35,7 @@ ExitCompletesOne =
 
 -- a turn that completes a barrier releases the warps of which the test holds, and no other
 abbrev pub Releases : (ℕ → Bool) → Turn → Type 0
-Releases test t = (value released v : ℕ) → t.verdict ≡ Accepted value true released → has released v ≡ test v
+Releases test t = (value released v : ℕ) → t.verdict ≡ accepted value true released → has released v ≡ test v
 
 -- an arrival releases the warps that wait at its barrier and, if its step waits, the issuer
 abbrev pub ArrivalReleases : Type 0
@@ -44,7 +45,7 @@ ArrivalReleases =
 
 -- a turn that completes a barrier releases this waiting set, in which warp w is not
 abbrev pub ReleasesSet : ℕ → ℕ → Turn → Type 0
-ReleasesSet waiting w t = (value released : ℕ) → t.verdict ≡ Accepted value true released → (released ≡ waiting) × (has released w ≡ false)
+ReleasesSet waiting w t = (value released : ℕ) → t.verdict ≡ accepted value true released → (released ≡ waiting) × (has released w ≡ false)
 
 -- an arrive releases its barrier's waiting set, without its own warp
 abbrev pub ArriveReleases : Type 0
@@ -57,7 +58,7 @@ ExitReleases = (b : Block) (w : ℕ) → sound_block b ≡ true → ReleasesSet 
 
 -- a turn that completes no barrier releases none
 abbrev pub ReleasesNone : Turn → Type 0
-ReleasesNone t = (value released : ℕ) → t.verdict ≡ Accepted value false released → released ≡ 0
+ReleasesNone t = (value released : ℕ) → t.verdict ≡ accepted value false released → released ≡ 0
 
 -- so an arrival that completes none releases none, and such an exit
 pub record NoneReleased : Type 0 where
@@ -69,7 +70,7 @@ pub record NoneReleased : Type 0 where
 -- after a turn that completes a barrier of this form a released warp is ready, of a red with the value as its result; any other warp keeps its row
 abbrev pub GivesResults : Form → Block → Turn → Type 0
 GivesResults form b t =
-    (value released v : ℕ) → v < most_warps → t.verdict ≡ Accepted value true released
+    (value released v : ℕ) → v < most_warps → t.verdict ≡ accepted value true released
     → warp_at t.block v
     ≡ cond (has released v) (record { status = Ready; result = cond (is_reduction form) value (warp_at b v).result }) (warp_at b v)
 
@@ -96,7 +97,7 @@ CountedSurvive = (b : Block) (w k : ℕ) → ((barrier_at b k).threads ≡ 0 →
 -- a turn that is accepted leaves the row of warp v, if it does not release it
 abbrev pub LeavesWarp : Block → ℕ → Turn → Type 0
 LeavesWarp b v t =
-    (value released : ℕ) (done : Bool) → t.verdict ≡ Accepted value done released → has released v ≡ false → warp_at t.block v ≡ warp_at b v
+    (value released : ℕ) (done : Bool) → t.verdict ≡ accepted value done released → has released v ≡ false → warp_at t.block v ≡ warp_at b v
 
 -- so does an arrival of every warp but an issuer that waits, and an exit of every warp but its own
 pub record WarpsLeft : Type 0 where
@@ -113,4 +114,4 @@ ArrivalKeepsLive = (b : Block) (w k : ℕ) (c : Call) → sound_block b ≡ true
 abbrev pub ExitTakesOut : Type 0
 ExitTakesOut =
     (b : Block) (w : ℕ) → Shaped b → sound_block b ≡ true
-    → (value released : ℕ) (done : Bool) → (exit b w).verdict ≡ Accepted value done released → live_of (exit b w).block ≡ less (live_of b) w
+    → (value released : ℕ) (done : Bool) → (exit b w).verdict ≡ accepted value done released → live_of (exit b w).block ≡ less (live_of b) w

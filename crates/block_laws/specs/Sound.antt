@@ -1,13 +1,11 @@
 -- What is claimed of sound tables: fresh tables are sound, every step keeps sound tables sound, and their sums fit.
 -- Assumes nothing.
-use Rattle.std.specs.Prelude.{◌≡◌, true, ℕ, ◌+◌, ◌*◌, ◌<◌, ◌≤◌, length}
+use Rattle.std.specs.Prelude.{◌≡◌, true, Option, None, ℕ, ◌+◌, ◌*◌, ◌<◌, ◌≤◌, length}
 use Rattle.block.specs.Tables.{most_warps, lane_count, barrier_count, barrier_at, is_plain, is_reduction, sound_block, fresh_block}
 use Rattle.barrier_row.specs.Rows.{up_to_largest}
 use Rattle.block_steps.specs.Steps.{arrival, exit}
 use Rattle.barrier_calls.specs.Calls.{sync_call, arrive_call, red_call}
 use Rattle.block.specs.declared.Block.{Block}
-use Rattle.block.specs.declared.Threads.{Threads}
-use Rattle.block.specs.declared.Threads.TheVariants.{All}
 use Rattle.block.specs.declared.Call.{Call}
 
 -- the block's lists are as long as its arrays
@@ -26,13 +24,13 @@ pub record Asks (c : Call) : Type 0 where
   pub lanes : c.lanes ≤ lane_count
   pub plain : is_plain c.form ≡ true → c.lanes ≡ 0
   pub reduction : is_reduction c.form ≡ true → c.waits ≡ true
-  pub all : c.threads ≡ All → c.waits ≡ true
+  pub all : c.threads ≡ None → c.waits ≡ true
 
 -- every call that sync, arrive and red make asks so
 pub record CallsAsk : Type 0 where
-  pub sync : (t : Threads) → Asks (sync_call t)
+  pub sync : (t : Option ℕ) → Asks (sync_call t)
   pub arrive : (t : ℕ) → Asks (arrive_call t)
-  pub red : (s : ℕ) (t : Threads) (mask : ℕ) → Asks (red_call s t mask)
+  pub red : (s : ℕ) (t : Option ℕ) (mask : ℕ) → Asks (red_call s t mask)
 
 -- fresh tables of 1 to 32 warps are sound
 abbrev pub FreshSound : Type 0

@@ -10,36 +10,21 @@ use block::{BARRIER_COUNT, Block, MOST_WARPS, Status, Warp};
 fn is_exited(row: Warp) -> bool
     ensures { result ≡ is_exited row.status }
 {
-    let s = row.status;
-    match s {
-        Status::Ready => false,
-        Status::Waiting(_) => false,
-        Status::Exited => true,
-    }
+    row.status == Status::Exited
 }
 
 // Whether the warp waits at barrier k.
 fn waits_at(row: Warp, k: u8) -> bool
     ensures { result ≡ waits_at row.status k }
 {
-    let s = row.status;
-    match s {
-        Status::Ready => false,
-        Status::Waiting(at) => at == k,
-        Status::Exited => false,
-    }
+    row.status == Status::Waiting(k)
 }
 
 // Whether the warp, if it waits, waits at a barrier that there is.
 fn waits_placed(row: Warp) -> bool
     ensures { result ≡ waits_placed row.status }
 {
-    let s = row.status;
-    match s {
-        Status::Ready => true,
-        Status::Waiting(at) => at < BARRIER_COUNT,
-        Status::Exited => true,
-    }
+    !matches!(row.status, Status::Waiting(at) if BARRIER_COUNT <= at)
 }
 
 // Whether row w of the warps of a block of n is sound.
@@ -53,47 +38,39 @@ fn warp_sound(n: u8, w: u8, row: Warp) -> bool
 pub fn live(b: Block) -> u32
     ensures { result ≡ live_of b }
 {
-    let n = b.warps;
-    let mut set: u32 = 0;
-    let mut w: u8 = 0;
-    while w < MOST_WARPS {
-        let row = b.rows[w as usize];
-        let here = (w < n) & !is_exited(row);
-        set += (here as u32) << (w as u32);
-        w += 1;
+    let mut set = 0;
+    for w in 0..MOST_WARPS {
+        let here = (w < b.warps) & !is_exited(b.rows[w as usize]);
+        if here {
+            set = sets::put(set, w);
+        }
     }
     set
 }
 
 // Whether every warp row is sound.
+#[tactic(auto, using(folds::proofs::Folds::all_none, folds::proofs::Folds::all_more))]
 fn warps_sound(b: Block) -> bool
     ensures { result ≡ warps_sound b }
 {
-    let n = b.warps;
-    let mut w: u8 = 0;
-    while w < MOST_WARPS {
-        let row = b.rows[w as usize];
-        if !warp_sound(n, w, row) {
+    for w in 0..MOST_WARPS {
+        if !warp_sound(b.warps, w, b.rows[w as usize]) {
             return false;
         }
-        w += 1;
     }
     true
 }
 
 // Whether every barrier row is sound.
+#[tactic(auto, using(folds::proofs::Folds::all_none, folds::proofs::Folds::all_more))]
 fn rows_sound(b: Block) -> bool
     ensures { result ≡ rows_sound b }
 {
-    let n = b.warps;
     let alive = live(b);
-    let mut k: u8 = 0;
-    while k < BARRIER_COUNT {
-        let row = b.barriers[k as usize];
-        if !barrier_sound::row_sound(n, alive, row) {
+    for k in 0..BARRIER_COUNT {
+        if !barrier_sound::row_sound(b.warps, alive, b.barriers[k as usize]) {
             return false;
         }
-        k += 1;
     }
     true
 }
@@ -103,35 +80,23 @@ fn agrees(b: Block) -> bool
     ensures { result ≡ agreeing b }
 {
     let mut ok = true;
-    let mut k: u8 = 0;
-    'rows: while k < BARRIER_COUNT {
+    'rows: for k in 0..BARRIER_COUNT {
         let barrier = b.barriers[k as usize];
-        let mut w: u8 = 0;
-        while w < MOST_WARPS {
-            let row = b.rows[w as usize];
-            ok = sets::has(barrier.waiting, w) == waits_at(row, k);
+        for w in 0..MOST_WARPS {
+            ok = sets::has(barrier.waiting, w) == waits_at(b.rows[w as usize], k);
             if !ok {
                 break 'rows;
             }
-            w += 1;
         }
-        k += 1;
     }
     ok
 }
 
 // Whether the block's tables are sound.
+#[tactic(auto, unfolding(block::specs::Tables::sound_block, folds::specs::Folds::every))]
 pub fn sound(b: Block) -> bool
     ensures { result ≡ sound_block b }
 {
-    if !((1 <= b.warps) & (b.warps <= MOST_WARPS)) {
-        return false;
-    }
-    if !warps_sound(b) {
-        return false;
-    }
-    if !rows_sound(b) {
-        return false;
-    }
-    agrees(b)
+    let counted = (1 <= b.warps) & (b.warps <= MOST_WARPS);
+    counted && warps_sound(b) && rows_sound(b) && agrees(b)
 }

@@ -1,4 +1,4 @@
--- Laws of changes: which change is which turn of a block, and the tests that lead to an arrival's.
+-- Laws of changes: which change is which turn of a block.
 -- Assumes nothing.
 use mathlib.Core.Path.{◌≡◌, refl, sym, ap, ◌∙◌}
 use mathlib.Core.Bool.{Bool, true, false, not, cond, ◌&&◌, and-false, false≢true}
@@ -6,27 +6,25 @@ use mathlib.Core.List.{List, [], ◌∷◌}
 use Prim.Native.Nat.{ℕ, zero, suc, ◌<◌, ◌^◌}
 use native.Mathlib.Decide.{ℕ_discrete}
 use native.Mathlib.Nat.{lt_of_le_of_lt}
-use native.Mathlib.Omega.{arith}
 use lib.Bits.{bit_and, bit_or, and_le_l}
 use lib.Dec.{eqb, ltb}
-use lib.ListN.{length, set}
+use lib.ListN.{length}
 use lib.Seq.{set_out, get_or-set_same, get_or-set_other}
-use borrow.Author.Tests.{eq-eqb, ne_eqb, ltb-true, ltb-false}
-use Rattle.folds.specs.Folds.{first, every, lowest, firsts}
+use borrow.Author.Tests.{eq-eqb, ltb-true, ltb-false}
+use Rattle.folds.specs.Folds.{first, every, firsts}
+use Rattle.std.specs.Prelude.{Some, None}
 use Rattle.sets.specs.Sets.{has, put, part}
 use Rattle.sets.proofs.Sets.{has_none, has_and, has_put_own, has_put_other, has_set_of, set_of_lt, ext, part_has}
-use Rattle.block.specs.Tables.{most_warps, barrier_count, fresh_warp, idle, barrier_at, is_idle, is_exited, live_of}
+use Rattle.block.specs.Tables.{most_warps, barrier_count, fresh_warp, barrier_at, is_idle, is_exited, live_of}
 use Rattle.barrier_row.specs.Rows.{arrived_row, completes}
 use Rattle.block.specs.declared.Status.TheVariants.{Ready, Waiting, Exited}
 use Rattle.block.specs.declared.Warp.{Warp}
 use Rattle.block.specs.declared.Barrier.{Barrier}
 use Rattle.block.specs.declared.Block.{Block}
-use Rattle.block.specs.declared.Call.{Call}
-use Rattle.block.specs.declared.Verdict.{Verdict}
-use Rattle.block.specs.declared.Verdict.TheVariants.{Accepted}
+use Rattle.block.specs.Verdicts.{Verdict, accepted}
 use Rattle.block.specs.declared.Turn.{Turn}
-use Rattle.block_steps.specs.Steps.{call_lines, released_warp, released_warps, freed_by, completed, goes_on, refused, without, opened}
-use Rattle.block_steps.specs.Changes.{with_status, changed, none_freed, no_change, made, refusing, going_on, completing, arriving, arrival_moved, ArrivalSeen, first_opening, ExitSeen}
+use Rattle.block_steps.specs.Steps.{released_warp, released_warps, completed, goes_on, without, opened}
+use Rattle.block_steps.specs.Changes.{with_status, changed, none_freed, no_change, made, going_on, completing, ArrivalSeen, first_opening, ExitSeen}
 
 -- where none waits, none is released
 freed_none : (n i : ℕ) (ws : List Warp) → firsts n i (released_warp none_freed) ws ≡ ws
@@ -45,33 +43,19 @@ same_turn : (v : Verdict) (n : ℕ) {ws us : List Warp} {rs ts : List Barrier} �
     → ◌≡◌ {A = Turn} (record { verdict = v; block = record { warps = n; rows = ws; barriers = rs } }) (record { verdict = v; block = record { warps = n; rows = us; barriers = ts } })
 same_turn v n e f = λ j. record { verdict = v; block = record { warps = n; rows = e j; barriers = f j } }
 
-module _ (b : Block) (l : length b.rows ≡ most_warps) (m : length b.barriers ≡ barrier_count) where
-  -- there is no warp 32
-  no_warp : with_status b.rows most_warps Ready ≡ b.rows
-  no_warp = set_out b.rows most_warps _ (omega (arith, l))
-
-  -- and no barrier 16
-  no_barrier : set b.barriers barrier_count idle ≡ b.barriers
-  no_barrier = set_out b.barriers barrier_count idle (omega (arith, m))
-
-  pub made_refused : (n : ℕ) → made b (refusing n) ≡ refused b n
-  made_refused n = same_turn _ _ (none_released (with_status b.rows most_warps Ready) ∙ no_warp) no_barrier
-
+module _ (b : Block) where
   -- no change leaves the block
   pub unchanged : changed b no_change ≡ b
-  unchanged = ap (λ (t : Turn). t.block) (made_refused 0)
+  unchanged = λ j. record { warps = b.warps; rows = none_released b.rows j; barriers = b.barriers }
 
-  pub made_completed : (k : ℕ) (r : Barrier) → made b (completing most_warps Ready k r) ≡ completed b k r
-  made_completed k r = same_turn _ _ (ap (released_warps (freed_by r)) no_warp) refl
-
-  pub made_waits : (w k : ℕ) (r : Barrier) → made b (going_on w (Waiting k) k r) ≡ goes_on b k r w true
+  made_waits : (w k : ℕ) (r : Barrier) → made b (going_on (Some (w, Waiting k)) (Some (k, r))) ≡ goes_on b k r w true
   made_waits w k r = same_turn _ _ (none_released (with_status b.rows w (Waiting k))) refl
 
-  pub made_arrives : (w k : ℕ) (r : Barrier) → made b (going_on most_warps Ready k r) ≡ goes_on b k r w false
-  made_arrives w k r = same_turn _ _ (none_released (with_status b.rows most_warps Ready) ∙ no_warp) refl
+  made_arrives : (w k : ℕ) (r : Barrier) → made b (going_on None (Some (k, r))) ≡ goes_on b k r w false
+  made_arrives w k r = same_turn _ _ (none_released b.rows) refl
 
-  pub made_exited : (w : ℕ) → made b (going_on w Exited barrier_count idle) ≡ record { verdict = Accepted 0 false 0; block = without b w }
-  made_exited w = same_turn _ _ (none_released (with_status b.rows w Exited)) no_barrier
+  made_exited : (w : ℕ) → made b (going_on (Some (w, Exited)) None) ≡ record { verdict = accepted 0 false 0; block = without b w }
+  made_exited w = same_turn _ _ (none_released (with_status b.rows w Exited)) refl
 
 -- ---- an arrival, by the rows that it looks at
 
@@ -81,31 +65,10 @@ arrival_seen b w k c l m =
     go r (completes (live_of b) r) c.waits
   where
     go : (r : Barrier) (u v : Bool)
-        → made b (cond u (completing most_warps Ready k r) (cond v (going_on w (Waiting k) k r) (going_on most_warps Ready k r))) ≡ cond u (completed b k r) (goes_on b k r w v)
-    go r true v = made_completed b l m k r
-    go r false true = made_waits b l m w k r
-    go r false false = made_arrives b l m w k r
-
--- its change, by the tests on the way to it
-module _ (n alive : ℕ) (r : Barrier) (w k : ℕ) (c : Call) (m : ℕ) (said : m ≡ lowest (call_lines n r w k c)) where
-  pub arrival_refused : (m ≡ 0 → ⊥) → refusing m ≡ arrival_moved n alive r w k c
-  unfolding arrival_moved
-  arrival_refused h = rw (← said, ne_eqb m 0 h)
-
-  module _ (none : m ≡ 0) (r' : Barrier) (arrived : r' ≡ arrived_row r w c) where
-    arrival_accepted : arriving alive r' w k c.waits ≡ arrival_moved n alive r w k c
-    unfolding arrival_moved
-    arrival_accepted = ap (λ (y : Barrier). arriving alive y w k c.waits) arrived ∙ rw (← said, none)
-
-    pub arrival_completes : completes alive r' ≡ true → completing most_warps Ready k r' ≡ arrival_moved n alive r w k c
-    arrival_completes h = rw (← arrival_accepted, h)
-
-    module _ (goes : completes alive r' ≡ false) where
-      pub arrival_waits : c.waits ≡ true → going_on w (Waiting k) k r' ≡ arrival_moved n alive r w k c
-      arrival_waits h = rw (← arrival_accepted, goes, h)
-
-      pub arrival_goes_on : c.waits ≡ false → going_on most_warps Ready k r' ≡ arrival_moved n alive r w k c
-      arrival_goes_on h = rw (← arrival_accepted, goes, h)
+        → made b (cond u (completing None k r) (cond v (going_on (Some (w, Waiting k)) (Some (k, r))) (going_on None (Some (k, r))))) ≡ cond u (completed b k r) (goes_on b k r w v)
+    go r true v = refl
+    go r false true = made_waits b w k r
+    go r false false = made_arrives b w k r
 
 -- ---- an exit, by the rows that it looks at
 
@@ -176,7 +139,7 @@ exit_seen b w l m =
     rw (same_opened b w l) (go k (ltb k barrier_count))
   where
     go : (k : ℕ) (u : Bool)
-        → made b (cond u (completing w Exited k (barrier_at b k)) (going_on w Exited barrier_count idle))
-        ≡ cond u (completed (without b w) k (barrier_at b k)) (record { verdict = Accepted 0 false 0; block = without b w })
+        → made b (cond u (completing (Some (w, Exited)) k (barrier_at b k)) (going_on (Some (w, Exited)) None))
+        ≡ cond u (completed (without b w) k (barrier_at b k)) (record { verdict = accepted 0 false 0; block = without b w })
     go k true = refl
-    go k false = made_exited b l m w
+    go k false = made_exited b w

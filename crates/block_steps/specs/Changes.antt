@@ -1,17 +1,18 @@
 -- What a step changes in the block, the block so changed, and what is claimed of an arrival's and an exit's change.
 -- Assumes nothing.
-use Rattle.std.specs.Prelude.{◌≡◌, Bool, true, false, not, cond, List, [], ◌∷◌, ℕ, eqb, ltb, length, get_or, set}
+use Rattle.std.specs.Prelude.{◌≡◌, Bool, true, false, not, cond, List, [], ◌∷◌, ℕ, eqb, ltb, length, get_or, set, Option, Some, None, Result, Ok}
+use Rattle.refusals.specs.declared.Refusal.{Refusal}
+use Rattle.refusals.specs.Refusals.{unless}
 use Rattle.folds.specs.Folds.{first, every, lowest}
 use Rattle.sets.specs.Sets.{put, part}
 use Rattle.block.specs.Tables.{most_warps, barrier_count, fresh_warp, idle, barrier_at, is_idle, live_of}
 use Rattle.barrier_row.specs.Rows.{arrived_row, completes, result_of}
 use Rattle.block.specs.declared.Status.{Status}
-use Rattle.block.specs.declared.Status.TheVariants.{Ready, Waiting, Exited}
+use Rattle.block.specs.declared.Status.TheVariants.{Waiting, Exited}
 use Rattle.block.specs.declared.Warp.{Warp}
 use Rattle.block.specs.declared.Barrier.{Barrier}
 use Rattle.block.specs.declared.Block.{Block}
 use Rattle.block.specs.declared.Call.{Call}
-use Rattle.block.specs.declared.Verdict.TheVariants.{Refused, Accepted}
 use Rattle.block.specs.declared.Turn.{Turn}
 use Rattle.block_steps.specs.declared.Freed.{Freed}
 use Rattle.block_steps.specs.declared.Change.{Change}
@@ -22,41 +23,47 @@ use Rattle.block_steps.specs.Steps.{call_lines, released_warps, freed_by, arrive
 abbrev pub with_status : List Warp → ℕ → Status → List Warp
 with_status ws w s = set ws w (record { status = s; result = (get_or ws w fresh_warp).result })
 
+-- with the status that a change gives, if it gives one
+abbrev pub restatused : List Warp → Option (ℕ × Status) → List Warp
+restatused ws None = ws
+restatused ws (Some c) = with_status ws c.0 c.1
+
+-- the barrier rows with the row that a change gives, if it gives one
+abbrev pub restored : List Barrier → Option (ℕ × Barrier) → List Barrier
+restored rs None = rs
+restored rs (Some c) = set rs c.0 c.1
+
 -- the block with a change made: a warp has another status and a barrier another row, and then warps are released
 abbrev pub changed : Block → Change → Block
 changed b c = record {
   warps = b.warps;
-  rows = released_warps c.freed (with_status b.rows c.warp c.status);
-  barriers = set b.barriers c.barrier c.row;
+  rows = released_warps c.freed (restatused b.rows c.status);
+  barriers = restored b.barriers c.row;
 }
 
 -- a release of nobody
 abbrev pub none_freed : Freed
-none_freed = record { set = 0; gives = false; result = 0 }
+none_freed = record { set = 0; result = None }
 
 -- no warp, no barrier, and nobody released
 abbrev pub no_change : Change
-no_change = record { warp = most_warps; status = Ready; barrier = barrier_count; row = idle; freed = none_freed }
+no_change = record { status = None; row = None; freed = none_freed }
 
 -- the turn of a step that makes a change
 abbrev pub made : Block → Moved → Turn
-made b m = record { verdict = m.verdict; block = changed b m.change }
+made b m = record { verdict = Ok m.accepted; block = changed b m.change }
 
 -- ---- the changes that steps make
 
--- a refused step makes none
-abbrev pub refusing : ℕ → Moved
-refusing n = record { verdict = Refused n; change = no_change }
-
 -- a step that completes nothing
-abbrev pub going_on : ℕ → Status → ℕ → Barrier → Moved
-going_on w s k r = record { verdict = Accepted 0 false 0; change = record { warp = w; status = s; barrier = k; row = r; freed = none_freed } }
+abbrev pub going_on : Option (ℕ × Status) → Option (ℕ × Barrier) → Moved
+going_on s r = record { accepted = record { value = 0; done = false; released = 0 }; change = record { status = s; row = r; freed = none_freed } }
 
 -- a step that completes barrier k with row r
-abbrev pub completing : ℕ → Status → ℕ → Barrier → Moved
-completing w s k r = record {
-  verdict = Accepted (result_of r) true r.waiting;
-  change = record { warp = w; status = s; barrier = k; row = idle; freed = freed_by r };
+abbrev pub completing : Option (ℕ × Status) → ℕ → Barrier → Moved
+completing s k r = record {
+  accepted = record { value = result_of r; done = true; released = r.waiting };
+  change = record { status = s; row = Some (k, idle); freed = freed_by r };
 }
 
 -- ---- an arrival, by the rows that it looks at
@@ -64,13 +71,12 @@ completing w s k r = record {
 -- what an arrival of warp w at barrier k changes that no line refuses, where r is the barrier's row with it and those of alive have not exited
 abbrev pub arriving : ℕ → Barrier → ℕ → ℕ → Bool → Moved
 arriving alive r w k waits =
-    cond (completes alive r) (completing most_warps Ready k r) (cond waits (going_on w (Waiting k) k r) (going_on most_warps Ready k r))
+    cond (completes alive r) (completing None k r) (cond waits (going_on (Some (w, Waiting k)) (Some (k, r))) (going_on None (Some (k, r))))
 
 -- what an arrival of warp w at barrier k changes in a block of so many warps, of which those of alive have not exited, where r is the row of the barrier: the lowest of lines 6 to 10, or the arrival
-unfoldable pub arrival_moved : ℕ → ℕ → Barrier → ℕ → ℕ → Call → Moved
+unfoldable pub arrival_moved : ℕ → ℕ → Barrier → ℕ → ℕ → Call → Result Moved Refusal
 arrival_moved warps alive r w k c =
-    let n = lowest (call_lines warps r w k c) in
-    cond (eqb n 0) (arriving alive (arrived_row r w c) w k c.waits) (refusing n)
+    unless (lowest (call_lines warps r w k c)) (arriving alive (arrived_row r w c) w k c.waits)
 
 -- of every block of 32 warp rows and sixteen barrier rows, an arrival's change makes its turn
 abbrev pub ArrivalSeen : Type 0
@@ -90,7 +96,7 @@ first_opening rs alive w = first barrier_count (λ k. opens_for (get_or rs k idl
 
 -- what an exit of warp w changes that no line refuses, where k is the barrier that it completes, 16 for none, and r the row of that barrier
 abbrev pub exiting : Barrier → ℕ → ℕ → Moved
-exiting r w k = cond (ltb k barrier_count) (completing w Exited k r) (going_on w Exited barrier_count idle)
+exiting r w k = cond (ltb k barrier_count) (completing (Some (w, Exited)) k r) (going_on (Some (w, Exited)) None)
 
 -- of every block of 32 warp rows and sixteen barrier rows, an exit's change at the first row that opens makes its turn
 abbrev pub ExitSeen : Type 0

@@ -1,6 +1,7 @@
 -- What an exit and a named-barrier step do: document 01, "Named barriers", and lines 4 to 10 of its refusal table.
 -- Assumes nothing.
-use Rattle.std.specs.Prelude.{Bool, true, false, not, cond, List, [], ◌∷◌, ◌++◌, ℕ, eqb, leb, ltb, set}
+use Rattle.std.specs.Prelude.{Bool, true, false, not, cond, List, [], ◌∷◌, ◌++◌, ℕ, eqb, leb, ltb, set, Some, None, unwrap_or, Err}
+use Rattle.refusals.specs.Refusals.{named}
 use Rattle.folds.specs.Folds.{first, every, Line, lowest, firsts}
 use Rattle.sets.specs.Sets.{has, part}
 use Rattle.block.specs.Tables.{most_warps, barrier_count, idle, warp_at, barrier_at, is_idle, is_reduction, is_ready, live_of}
@@ -10,7 +11,7 @@ use Rattle.block.specs.declared.Warp.{Warp}
 use Rattle.block.specs.declared.Barrier.{Barrier}
 use Rattle.block.specs.declared.Block.{Block}
 use Rattle.block.specs.declared.Call.{Call}
-use Rattle.block.specs.declared.Verdict.TheVariants.{Refused, Accepted}
+use Rattle.block.specs.Verdicts.{accepted}
 use Rattle.block.specs.declared.Turn.{Turn}
 use Rattle.block_steps.specs.declared.Freed.{Freed}
 
@@ -55,7 +56,7 @@ arrival_lines b w k c = exit_lines b w ++ call_lines b.warps (barrier_at b k) w 
 
 -- a refused step leaves the block
 abbrev pub refused : Block → ℕ → Turn
-refused b n = record { verdict = Refused n; block = b }
+refused b n = record { verdict = Err (named n); block = b }
 
 -- the refusal of the lowest of these lines, and where none applies what is done else
 abbrev pub unless : List Line → Block → Turn → Turn
@@ -65,7 +66,7 @@ unless ls b t = cond (eqb (lowest ls) 0) t (refused b (lowest ls))
 
 -- the row of warp w after a release: a released warp is ready, and gets the result if one is given
 abbrev pub released_warp : Freed → ℕ → Warp → Warp
-released_warp f w x = cond (has f.set w) (record { status = Ready; result = cond f.gives f.result x.result }) x
+released_warp f w x = cond (has f.set w) (record { status = Ready; result = unwrap_or f.result x.result }) x
 
 -- the warp rows after a release
 abbrev pub released_warps : Freed → List Warp → List Warp
@@ -73,19 +74,19 @@ released_warps f ws = firsts most_warps 0 (released_warp f) ws
 
 -- a completed barrier of row r releases its waiting warps; each of a red gets the result
 abbrev pub freed_by : Barrier → Freed
-freed_by r = record { set = r.waiting; gives = is_reduction r.form; result = result_of r }
+freed_by r = record { set = r.waiting; result = cond (is_reduction r.form) (Some (result_of r)) None }
 
 -- barrier k completes with row r: the row becomes idle and the waiting warps are released
 abbrev pub completed : Block → ℕ → Barrier → Turn
 completed b k r = record {
-  verdict = Accepted (result_of r) true r.waiting;
+  verdict = accepted (result_of r) true r.waiting;
   block = record { warps = b.warps; rows = released_warps (freed_by r) b.rows; barriers = set b.barriers k idle };
 }
 
 -- barrier k goes on with row r, and warp w waits there if its step waits
 abbrev pub goes_on : Block → ℕ → Barrier → ℕ → Bool → Turn
 goes_on b k r w waits = record {
-  verdict = Accepted 0 false 0;
+  verdict = accepted 0 false 0;
   block = record {
     warps = b.warps;
     rows = cond waits (set b.rows w (record { status = Waiting k; result = (warp_at b w).result })) b.rows;
@@ -125,7 +126,7 @@ opened b = first barrier_count (λ k. opens b k)
 abbrev pub exits : Block → ℕ → Turn
 exits b w =
     let e = without b w in
-    cond (ltb (opened e) barrier_count) (completed e (opened e) (barrier_at e (opened e))) (record { verdict = Accepted 0 false 0; block = e })
+    cond (ltb (opened e) barrier_count) (completed e (opened e) (barrier_at e (opened e))) (record { verdict = accepted 0 false 0; block = e })
 
 -- warp w exits
 unfoldable pub exit : Block → ℕ → Turn

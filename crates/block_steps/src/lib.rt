@@ -2,48 +2,47 @@
 #![tactic(auto)]
 
 ghost use Rattle.std.specs.Prelude.{◌≡◌};
-ghost use Rattle.folds.specs.Folds.{lowest};
-ghost use Rattle.block_steps.specs.Steps.{warp_lines};
-ghost use Rattle.block_steps.specs.Changes.{none_freed, no_change, refusing, going_on, completing};
+ghost use Rattle.refusals.specs.Refusals.{judged};
+ghost use Rattle.block_steps.specs.Steps.{warp_lines, freed_by};
+ghost use Rattle.block_steps.specs.Changes.{none_freed, no_change, going_on, completing};
 
-use block::{BARRIER_COUNT, Barrier, MOST_WARPS, Status, Verdict, Warp};
+use block::{Accepted, Barrier, Status, Warp};
+use refusals::Refusal;
 
 // A release: the set of warps that it makes ready, and the result that they get if it gives one.
 #[derive(Clone, Copy)]
 pub struct Freed {
     pub set: u32,
-    pub gives: bool,
-    pub result: u32,
+    pub result: Option<u32>,
 }
 
-// What a step changes in the block: the status of a warp, the row of a barrier, and who is released. Warp 32, barrier 16 and an empty set stand for none.
+// What a step changes in the block: the status of a warp and the row of a barrier, if it changes one, each with its number, and who is released.
 #[derive(Clone, Copy)]
 pub struct Change {
-    pub warp: usize,
-    pub status: Status,
-    pub barrier: usize,
-    pub row: Barrier,
+    pub status: Option<(u8, Status)>,
+    pub row: Option<(u8, Barrier)>,
     pub freed: Freed,
 }
 
-// A verdict, and what the step changes in the block.
+// What an accepted step answers, and what it changes in the block.
 #[derive(Clone, Copy)]
 pub struct Moved {
-    pub verdict: Verdict,
+    pub accepted: Accepted,
     pub change: Change,
 }
 
-// The lowest of lines 4 and 5 that applies to a step of warp w, whose row is this, in a block of so many warps, and 0 if none does.
-pub fn warp_refusal(warps: u8, row: Warp, w: u8) -> u8
-    ensures { result ≡ lowest (warp_lines warps row w) }
+// Refuses a step of warp w, whose row is this, in a block of so many warps, by the lowest of lines 4 and 5 that applies.
+#[tactic(auto, unfolding(folds::specs::Folds::lowest))]
+pub fn warp_refusal(warps: u8, row: Warp, w: u8) -> Result<(), Refusal>
+    ensures { result ≡ judged (warp_lines warps row w) }
 {
     if warps <= w {
-        return 4;
+        return Err(Refusal::NoSuchWarp);
     }
     if !block::is_ready(row) {
-        return 5;
+        return Err(Refusal::NotReady);
     }
-    0
+    Ok(())
 }
 
 // A release of nobody.
@@ -52,8 +51,7 @@ fn none_freed() -> Freed
 {
     Freed {
         set: 0,
-        gives: false,
-        result: 0,
+        result: None,
     }
 }
 
@@ -61,72 +59,60 @@ fn none_freed() -> Freed
 pub fn no_change() -> Change
     ensures { result ≡ no_change }
 {
-    let row = block::idle_row();
-    let freed = none_freed();
     Change {
-        warp: MOST_WARPS as usize,
-        status: Status::Ready,
-        barrier: BARRIER_COUNT as usize,
-        row,
-        freed,
+        status: None,
+        row: None,
+        freed: none_freed(),
     }
 }
 
-// A step refused with line n changes nothing.
-pub fn refuse(n: u8) -> Moved
-    ensures { result ≡ refusing n }
+// A step that completes nothing: a warp may have another status, and a barrier another row.
+pub fn go_on(status: Option<(u8, Status)>, row: Option<(u8, Barrier)>) -> Moved
+    ensures { result ≡ going_on status row }
 {
     Moved {
-        verdict: Verdict::Refused(n),
-        change: no_change(),
-    }
-}
-
-// A step that completes nothing: a warp has another status, and a barrier another row.
-pub fn go_on(warp: usize, status: Status, barrier: usize, row: Barrier) -> Moved
-    ensures { result ≡ going_on warp status barrier row }
-{
-    let freed = none_freed();
-    Moved {
-        verdict: Verdict::Accepted {
+        accepted: Accepted {
             value: 0,
             done: false,
             released: 0,
         },
         change: Change {
-            warp,
             status,
-            barrier,
             row,
-            freed,
+            freed: none_freed(),
         },
     }
 }
 
-// A step that completes a barrier, whose row is r: a warp has another status, the barrier is idle, and who waited there is released.
-pub fn complete(warp: usize, status: Status, barrier: usize, r: Barrier) -> Moved
-    ensures { result ≡ completing warp status barrier r }
+// Who a completed barrier of row r releases, with the result if it is a red's.
+fn freed_by(r: Barrier) -> Freed
+    ensures { result ≡ freed_by r }
 {
-    let f = r.form;
-    let gives = 1 < block::form_number(f);
-    let result = barrier_row::result_of(r);
-    let row = block::idle_row();
+    let result = if block::is_reduction(r.form) {
+        Some(barrier_row::result_of(r))
+    } else {
+        None
+    };
+    Freed {
+        set: r.waiting,
+        result,
+    }
+}
+
+// A step that completes barrier k, whose row is r: a warp may have another status, the barrier is idle, and who waited there is released.
+pub fn complete(status: Option<(u8, Status)>, k: u8, r: Barrier) -> Moved
+    ensures { result ≡ completing status k r }
+{
     Moved {
-        verdict: Verdict::Accepted {
-            value: result as u64,
+        accepted: Accepted {
+            value: u64::from(barrier_row::result_of(r)),
             done: true,
             released: r.waiting,
         },
         change: Change {
-            warp,
             status,
-            barrier,
-            row,
-            freed: Freed {
-                set: r.waiting,
-                gives,
-                result,
-            },
+            row: Some((k, block::idle_row())),
+            freed: freed_by(r),
         },
     }
 }

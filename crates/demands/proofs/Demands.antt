@@ -2,23 +2,22 @@
 -- Assumes nothing.
 use mathlib.Core.Path.{◌≡◌, refl, sym, ap, ◌∙◌}
 use mathlib.Core.Logic.{◌↔◌, ◌⊎◌, inl, inr}
-use mathlib.Core.Bool.{Bool, true, false, cond, true≢false}
+use mathlib.Core.Bool.{true}
 use mathlib.Core.List.{List, Perm}
 use Prim.Native.Nat.{ℕ, zero, suc, ◌-◌, ◌<◌, ◌^◌}
 use native.Mathlib.Omega.{arith}
-use borrow.Author.Tests.{ne_eqb}
-use lib.Dec.{eqb}
 use mir.Val.{Val}
 use denote.Laws.{Is}
 use denote.Struct.Laws as LL
 use denote.Enum.Laws as Le
 use Rattle.folds.specs.Folds.{Line, lowest}
-use Rattle.folds.specs.Lowest.{Lowest, ascending, holds}
+use Rattle.folds.specs.Lowest.{Lowest, ascending}
 use Rattle.folds.proofs.Lowest.{lowest_given}
+use Rattle.std.specs.Prelude.{Ok, Err}
+use Rattle.refusals.specs.declared.Refusal.{Refusal}
+use Rattle.refusals.specs.Refusals.{number}
+use Rattle.refusals.proofs.Refusals.{refused_exactly}
 use Rattle.steps.specs.declared.Step.{Step}
-use Rattle.steps.specs.declared.Cursor.{Cursor}
-use Rattle.steps.specs.declared.Read.{Read}
-use Rattle.steps.specs.declared.Read.TheVariants.{Found, Refused}
 use Rattle.steps.specs.declared.Op.{Op}
 use Rattle.steps.specs.declared.Op.TheVariants.{Exit, Barrier, Object, PendingCount}
 use Rattle.steps.specs.declared.BarrierStep.{BarrierStep}
@@ -37,8 +36,7 @@ use Rattle.steps.proofs.BarrierStep.TheLaws as B'
 use Rattle.steps.specs.contracts.ObjectStep as Y
 use Rattle.steps.proofs.ObjectStep.TheLaws as Y'
 use Rattle.object.specs.declared.Object as row
-use Rattle.block.specs.declared.Verdict.{Verdict}
-use Rattle.block.specs.declared.Verdict.TheVariants as verdicts
+use Rattle.block.specs.Verdicts.{Verdict}
 use Rattle.tables.specs.Tables.{Tables, is_accepted, done_of, view_of, number_of}
 use Rattle.tables.specs.Refusals.{lines}
 use Rattle.tables.specs.Effect.{verdict, State, run}
@@ -60,8 +58,8 @@ given ls up (suc n) e = inr ((lowest_given ls up (suc n) (omega arith)).0 e)
 -- ---- demand 1
 
 answered : (t : Tables) (s : Step) → (v : Verdict) → verdict t s ≡ v → (is_accepted v ≡ true) ⊎ Lowest (lines (view_of t s) s) (number_of v)
-answered t s (verdicts.Accepted value done released) e = inl refl
-answered t s (verdicts.Refused n) e = inr ((tables.refused_exactly t s n).0 e)
+answered t s (Ok a) e = inl refl
+answered t s (Err r) e = inr ((tables.refused_exactly t s r).0 e)
 
 pub demand1 : Demand1
 unfolding ascending fresh_refusal
@@ -112,48 +110,9 @@ every_step_fits s (v, is) = let k = LL.owed S.the_type S'.the_laws s v is in op_
 
 -- ---- demand 2: reading is refused exactly
 
--- the number of what was read, 0 where it is a step
-abbrev number : Read → ℕ
-number (Found st c) = 0
-number (Refused n) = n
-
--- a step that was found, or the refusal of a number that isn't 0
-module _ (st : Step) (c : Cursor) where
-  abbrev unless : ℕ → Read
-  unless n = cond (eqb n 0) (Found st c) (Refused n)
-
-  some_number : (m : ℕ) → number (unless m) ≡ m
-  some_number zero = refl
-  some_number (suc m) = rw (ne_eqb (suc m) 0 (λ e. omega arith))
-
-  is_refused : (m n : ℕ) → m ≡ n → 0 < n → unless m ≡ Refused n
-  is_refused m zero e less = absurd (omega (arith, less))
-  is_refused m (suc n) e less = rw (e, ne_eqb (suc n) 0 (λ z. omega arith))
-
-  found_never : (m n : ℕ) → unless m ≡ Refused n → 0 < n
-  found_never zero n e = absurd (never e)
-    where
-      is_step : Read → Bool
-      is_step (Found st c) = true
-      is_step (Refused n) = false
-
-      never : Found st c ≡ Refused n → ⊥
-      never k = true≢false (ap is_step k)
-  found_never (suc m) n e = let k : suc m ≡ n = sym (some_number (suc m)) ∙ ap number e in omega arith
-
--- a line that applies has a number
-some_line : (s : List ℕ) (at n : ℕ) → Lowest (read_lines s at) n → 0 < n
-unfolding holds
-some_line s at zero w = absurd (true≢false (sym w.here))
-some_line s at (suc n) w = omega arith
-
-unread : (s : List ℕ) (at n : ℕ) → (read_at s at ≡ Refused n) ↔ Lowest (read_lines s at) n
+unread : (s : List ℕ) (at : ℕ) (r : Refusal) → (read_at s at ≡ Err r) ↔ Lowest (read_lines s at) (number r)
 unfolding read_at ascending
-unread s at n = (
-  λ e. let some = found_never _ _ (read_refusal s at) n e in
-      (lowest_given (read_lines s at) refl n some).0 (sym (some_number _ _ (read_refusal s at)) ∙ ap number e),
-  λ w. is_refused _ _ (read_refusal s at) n ((lowest_given (read_lines s at) refl n (some_line s at n w)).1 w) (some_line s at n w),
-)
+unread s at r = refused_exactly (read_lines s at) _ refl refl r
 
 pub demand2 : Demand2
 demand2 = record {

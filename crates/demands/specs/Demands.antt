@@ -1,6 +1,6 @@
 -- The three demands, to be read first: a record to each, a field to each of its sentences, in the demand's order and words.
 -- Assumes nothing.
-use Rattle.std.specs.Prelude.{◌≡◌, ◌↔◌, ◌⊎◌, true, false, ℕ, ◌+◌, ◌-◌, ◌≤◌, length}
+use Rattle.std.specs.Prelude.{◌≡◌, ◌↔◌, ◌⊎◌, true, false, ℕ, ◌+◌, ◌-◌, ◌≤◌, length, Ok, Err}
 use mathlib.Core.List.{List, ◌∷◌, ◌++◌, Perm}
 use mir.Val.{Val}
 use denote.Laws.{Is}
@@ -9,11 +9,12 @@ use Rattle.fields.specs.Num.{Bytes}
 use Rattle.steps.specs.declared.ObjectStep.{ObjectStep}
 use Rattle.steps.specs.declared.Step.{Step}
 use Rattle.steps.specs.declared.Cursor.{Cursor}
-use Rattle.steps.specs.declared.Read.TheVariants.{Found, Refused}
+use Rattle.refusals.specs.declared.Refusal.{Refusal}
+use Rattle.refusals.specs.Refusals.{number}
 use Rattle.steps.specs.Step.{bytes_of, read_lines, read_refusal, read_at, written}
 use Rattle.steps.specs.Laws.{Fits}
 use Rattle.steps.specs.contracts.Step as code
-use Rattle.block.specs.declared.Verdict.TheVariants.{Accepted}
+use Rattle.block.specs.Verdicts as said
 use Rattle.tables.specs.Tables.{Tables, view_of, number_of, is_accepted, done_of}
 use Rattle.tables.specs.Refusals.{lines}
 use Rattle.tables.specs.Effect.{verdict, State, run}
@@ -50,7 +51,7 @@ EveryStepFits = (s : Step) → InCode s → Fits s
 
 pub record Demand2 : Type 0 where
   -- "A step is refused exactly when a line of that table applies, with the lowest such number": lines 1 and 2
-  pub unread : (s : List ℕ) (at n : ℕ) → (read_at s at ≡ Refused n) ↔ Lowest (read_lines s at) n
+  pub unread : (s : List ℕ) (at : ℕ) (r : Refusal) → (read_at s at ≡ Err r) ↔ Lowest (read_lines s at) (number r)
   -- and 3 to 20, of whatever the step over lent tables promises
   pub refused : lent.RefusedExactly
   -- "Otherwise": accepted exactly when no line applies
@@ -59,9 +60,9 @@ pub record Demand2 : Type 0 where
   pub effect : AcceptedDoes
   -- "A step written and read is the same step", with the place after it
   pub written_read : (s : Step) (out : List ℕ) (at : ℕ) → InCode s → at + length (bytes_of s) ≤ length out
-      → read_at (written s out at) at ≡ Found s (record { at = at + length (bytes_of s) })
+      → read_at (written s out at) at ≡ Ok (s, record { at = at + length (bytes_of s) })
   -- "a step read and written, the same bytes"
-  pub read_written : (s : List ℕ) (at : ℕ) (st : Step) (c : Cursor) → Bytes s → read_at s at ≡ Found st c → written st s at ≡ s
+  pub read_written : (s : List ℕ) (at : ℕ) (st : Step) (c : Cursor) → Bytes s → read_at s at ≡ Ok (st, c) → written st s at ≡ s
 
 -- ---- demand 3
 
@@ -85,8 +86,8 @@ pub record Demand3 : Type 0 where
   pub no : (x : State) (a : ℕ) (l l' : List Step) → Due x.tables a l → Perm l l'
       → (pre : List Step) (s : Step) (post : List Step) → l' ≡ pre ++ (s ∷ post)
       → (w : ℕ) → ready x.tables.block w ≡ true → (o : ObjectStep) → TestOf a (object_at x.tables a).phase o
-      → verdict (run x pre).tables (step_on w a o) ≡ Accepted 0 false 0
+      → verdict (run x pre).tables (step_on w a o) ≡ said.accepted 0 false 0
   -- "and yes straight after it"
   pub yes : (x : State) (a : ℕ) (l l' : List Step) → Due x.tables a l → Perm l l'
       → (w : ℕ) → ready x.tables.block w ≡ true → (o : ObjectStep) → TestOf a (object_at x.tables a).phase o
-      → verdict (run x l').tables (step_on w a o) ≡ Accepted 1 false 0
+      → verdict (run x l').tables (step_on w a o) ≡ said.accepted 1 false 0

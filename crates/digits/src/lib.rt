@@ -1,26 +1,27 @@
 // Numbers and sets of warps as digits, laid into a buffer that the caller lends.
 #![tactic(auto)]
 
-ghost use Rattle.std.specs.Prelude.{◌≡◌, ◌≤◌, ◌<◌, length};
+ghost use Rattle.std.specs.Prelude.{◌≡◌, ◌+◌, ◌≤◌, ◌<◌, leb, length};
 ghost use Rattle.fields.specs.Num.{laid};
 ghost use Rattle.io.specs.Digits.{last_digits, hex_digit_ascii as glyph_of};
 ghost use Rattle.digits.specs.Digits.{places, decimal, warps};
+
+// Whether k bytes from at on lie in a buffer of so many.
+fn fits(len: usize, at: usize, k: usize) -> bool
+    ensures { result ≡ leb (at + k) len }
+{
+    at <= len && k <= len - at
+}
 
 // Lays bytes in from at on; where they do not fit, nothing changes.
 pub fn put(out: &mut [u8], at: usize, from: &[u8])
     ensures { out.new ≡ laid out.old at from.now }
 {
-    if out.len() < at {
+    if !fits(out.len(), at, from.len()) {
         return;
     }
-    if out.len() - at < from.len() {
-        return;
-    }
-    let mut i = 0;
-    while i < from.len() {
-        out[at + i] = from[i];
-        i = i + 1;
-    }
+    let end = at + from.len();
+    out[at..end].copy_from_slice(from);
 }
 
 // The ASCII code of a digit.
@@ -28,7 +29,11 @@ fn glyph(d: u64) -> u8
     requires { d < 16 }
     ensures { result ≡ glyph_of d }
 {
-    if d < 10 { 48 + d as u8 } else { 87 + d as u8 }
+    if d < 10 {
+        b'0' + d as u8
+    } else {
+        b'a' + (d - 10) as u8
+    }
 }
 
 // Lays the last k digits of n in a base from at on, the last first, where they fit, and else nothing.
@@ -36,45 +41,31 @@ fn spell(out: &mut [u8], at: usize, k: usize, base: u64, n: u64)
     requires { (0 < base) × (base ≤ 16) }
     ensures { out.new ≡ laid out.old at (last_digits base k n) }
 {
-    if out.len() < at {
+    if !fits(out.len(), at, k) {
         return;
     }
-    if out.len() - at < k {
-        return;
-    }
-    let mut i = k;
-    let mut rest = n;
-    while 0 < i {
-        i = i - 1;
-        out[at + i] = glyph(rest % base);
-        rest = rest / base;
+    let mut left = n;
+    for i in (0..k).rev() {
+        out[at + i] = glyph(left % base);
+        left /= base;
     }
 }
 
-// How many decimal digits a number takes.
+// How many decimal digits a number takes. Most values take one, which is told without counting.
+#[tactic(auto, using(crate::proofs::Digits::one_place, crate::proofs::Digits::power_places))]
 fn places_of(n: u64) -> usize
     ensures { result ≡ places n }
 {
-    let mut k: usize = 0;
-    let mut power: u64 = 10;
-    while k < 18 {
-        if n < power {
-            return k + 1;
-        }
-        power = power * 10;
-        k = k + 1;
+    if n < 10 {
+        return 1;
     }
-    if n < power { 19 } else { 20 }
+    n.ilog10() as usize + 1
 }
 
-// Lays a number in decimal from at on, where it fits, and else nothing; answers how many digits it has. Most values have one, which is laid without counting.
+// Lays a number in decimal from at on, where it fits, and else nothing; answers how many digits it has.
 pub fn put_decimal(out: &mut [u8], at: usize, n: u64) -> usize
     ensures { (result ≡ length (decimal n)) × (out.new ≡ laid out.old at (decimal n)) }
 {
-    if n < 10 {
-        spell(&mut *out, at, 1, 10, n);
-        return 1;
-    }
     let k = places_of(n);
     spell(&mut *out, at, k, 10, n);
     k
@@ -88,5 +79,5 @@ pub fn put_warps(out: &mut [u8], at: usize, set: u32)
         put(&mut *out, at, b"00000000");
         return;
     }
-    spell(&mut *out, at, 8, 16, set as u64);
+    spell(&mut *out, at, 8, 16, u64::from(set));
 }

@@ -1,15 +1,15 @@
 -- Laws of little-endian numbers, each over the width.
 -- Assumes nothing.
-use mathlib.Core.Path.{◌≡◌, refl, sym, ap, ◌∙◌, subst}
+use mathlib.Core.Path.{◌≡◌, refl, sym, ap, subst}
 use mathlib.Core.List.{List, [], ◌∷◌, ◌++◌}
 use Prim.Native.Nat.{ℕ, zero, suc, ◌+◌, ◌-◌, ◌*◌, ◌/◌, ◌%◌, ◌≤◌, ◌<◌}
 use native.Mathlib.Omega.{arith}
 use native.Mathlib.Nat.{add-zero, zero-add, suc-add}
 use native.Mathlib.Numerals.{add-one}
 use borrow.Author.Tests.{le-leb, lt-leb}
-use lib.ListN.{length, take, drop, get_or, length-drop, drop_of_length-le}
-use lib.Seq.{get_or-drop, drop-drop, take_all, sets, sets-eq}
-use Rattle.fields.specs.Num.{room, num, bytes, up_to8, Bytes, laid}
+use lib.ListN.{length, take, drop, get_or}
+use lib.Seq.{get_or-drop, drop-drop, sets, sets-eq}
+use Rattle.fields.specs.Num.{room, num, bytes, Bytes, laid}
 
 pub bytes_drop : (k : ℕ) (s : List ℕ) → Bytes s → Bytes (drop k s)
 bytes_drop k s h i = subst (λ (b : ℕ). b < 256) (sym (get_or-drop k s i 0)) (h (k + i))
@@ -43,45 +43,19 @@ num_more zero s t h = refl
 num_more (suc w) [] t h = absurd (omega arith)
 num_more (suc w) (b ∷ s) t h = rw (num_more w s t (omega arith))
 
--- no byte is a number 0
-pub num_none : (w : ℕ) → num w [] ≡ 0
-num_none zero = refl
-num_none (suc w) = rw (num_none w)
-
 room_le : (k n : ℕ) → room k ≤ room (n + k)
 room_le k zero = subst (λ (m : ℕ). room k ≤ room m) (sym (zero-add k)) (omega arith)
 room_le k (suc n) = rw suc-add (omega (arith, room_le k n))
 
-pub num_small : (k : ℕ) (s : List ℕ) → Bytes s → k ≤ 8 → num k s < 18446744073709551616
-num_small k s h l =
+-- up to eight bytes hold no more than eight do
+pub room_small : (k : ℕ) → k ≤ 8 → room k ≤ 18446744073709551616
+room_small k l =
     let e : (8 - k) + k ≡ 8 = omega arith in
-    omega (arith, num_lt k s h, subst (λ (m : ℕ). room k ≤ room m) e (room_le k (8 - k)))
+    subst (λ (m : ℕ). room k ≤ room m) e (room_le k (8 - k))
 
 -- one byte more, below those that were read
 pub num_step : (k p : ℕ) (s : List ℕ) → num (suc k) (drop p s) ≡ num k (drop (suc p) s) * 256 + get_or s p 0
 num_step k p s = rw (get_or-drop p s 0 0, add-zero p, drop-drop 1 p s, add-one p) (omega arith)
-
--- ---- a number from a place on, at a width that is cut to eight
-
-room_pos : (w : ℕ) → 0 < room w
-room_pos zero = omega arith
-room_pos (suc w) = omega (arith, room_pos w)
-
-module _ (s : List ℕ) (at width : ℕ) where
-  pub number_past : length s ≤ at → (0 ≡ num (up_to8 width) (drop at s)) × (0 < room (up_to8 width))
-  number_past h = (sym (ap (num (up_to8 width)) (drop_of_length-le s h) ∙ num_none (up_to8 width)), room_pos (up_to8 width))
-
-  pub number_cut : (w r : ℕ) → up_to8 width ≡ w → (r ≡ num w (take (length s - at) (drop at s))) × (r < room w)
-      → (r ≡ num (up_to8 width) (drop at s)) × (r < room (up_to8 width))
-  number_cut w r e h =
-      let whole : take (length s - at) (drop at s) ≡ drop at s = take_all (length s - at) (drop at s) (simp length-drop (omega arith)) in
-      rw e (h.0 ∙ ap (num w) whole, h.1)
-
-pub up_to8_wide : (w : ℕ) → 8 < w → up_to8 w ≡ 8
-up_to8_wide w h = rw (lt-leb w 8 h)
-
-pub up_to8_narrow : (w : ℕ) → w ≤ 8 → up_to8 w ≡ w
-up_to8_narrow w h = rw (le-leb w 8 h)
 
 -- ---- bytes laid in
 

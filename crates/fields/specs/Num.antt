@@ -17,10 +17,6 @@ abbrev pub bytes : ℕ → ℕ → List ℕ
 bytes zero v = []
 bytes (suc w) v = (v % 256) ∷ bytes w (v / 256)
 
--- the widest number has eight bytes
-abbrev pub up_to8 : ℕ → ℕ
-up_to8 w = cond (leb w 8) w 8
-
 -- every element is a byte
 abbrev pub Bytes : List ℕ → Type 0
 Bytes s = (i : ℕ) → get_or s i 0 < 256

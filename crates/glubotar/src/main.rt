@@ -1,6 +1,7 @@
 // The checker's program: answers standard input, or each trace file that an argument names.
 #![tactic(auto)]
 
+use answering::Room;
 use reading::TRACE_ROOM;
 use std::env::FillError;
 use std::rt::Env;
@@ -8,19 +9,15 @@ use whole_text::TEXT_ROOM;
 
 // How many arguments the program was started with, its own name among them.
 fn argument_count(rt: &impl Env) -> usize {
-    let mut none = [0u8; 0];
-    for i in 0..usize::MAX {
-        if let Err(FillError::NotPresent) = rt.arg(i, &mut none) {
-            return i;
-        }
-    }
-    usize::MAX
+    let is_past = |i: &usize| matches!(rt.arg(*i, &mut []), Err(FillError::NotPresent));
+    (0..usize::MAX).find(is_past).unwrap_or(usize::MAX)
 }
 
-// Makes the two buffers and has every trace answered. Where the output can't be written, that was said, and the rest is left.
+// Makes the room and has every trace answered. Where the output can't be written, that was said, and the rest is left.
 fn main(rt: HostRuntime) {
-    let mut trace = [0u8; TRACE_ROOM];
-    let mut text = [0u8; TEXT_ROOM];
-    let count = argument_count(&rt);
-    answering::every(&rt, count, &mut trace, &mut text);
+    let mut room = Room {
+        trace: [0; TRACE_ROOM],
+        text: [0; TEXT_ROOM],
+    };
+    answering::every(&rt, argument_count(&rt), &mut room);
 }

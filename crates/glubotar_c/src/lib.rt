@@ -7,11 +7,10 @@ ghost use Rattle.trace_text.specs.Text.{text_of, room_for, counts_of};
 ghost use Rattle.text.specs.Buffer.{answer_of};
 ghost use Rattle.glubotar_c.specs.Answer.{number_of};
 
-use text::Laid;
 use trace_text::Counts;
 
 // SIZE_MAX: the text doesn't fit.
-const NO_ROOM: usize = 18446744073709551615;
+const NO_ROOM: usize = usize::MAX;
 
 // The room that is enough for the text of any trace of this length.
 #[unsafe(no_mangle)]
@@ -42,9 +41,5 @@ pub extern "C" fn glubotar_count(trace: &[u8]) -> Counts
 pub extern "C" fn glubotar_check(trace: &[u8], out: &mut [u8]) -> usize
     ensures { (result ≡ number_of (answer_of (text_of trace.now) out.old)) × (out.new ≡ laid out.old 0 (text_of trace.now)) }
 {
-    let answer = text::lay(trace, &mut *out);
-    match answer {
-        Laid::Length(n) => n,
-        Laid::Short => NO_ROOM,
-    }
+    text::lay(trace, &mut *out).unwrap_or(NO_ROOM)
 }

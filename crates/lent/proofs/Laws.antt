@@ -3,18 +3,19 @@
 use mathlib.Core.Path.{◌≡◌, refl, sym, ◌∙◌, ap, subst}
 use mathlib.Core.Logic.{◌↔◌}
 use mathlib.Core.Bool.{true, false, true≢false, false≢true}
-use Prim.Native.Nat.{ℕ}
+use Prim.Native.Nat.{ℕ, zero, suc}
 use native.Mathlib.Omega.{arith}
 use lib.ListN.{length, get_or}
 use native.Mathlib.Decide.{ℕ_discrete}
-use borrow.Author.Tests.{ne_eqb}
 use Rattle.folds.specs.Folds.{all, every}
-use Rattle.folds.specs.Lowest.{Lowest, ascending, holds}
+use Rattle.folds.specs.Lowest.{Lowest, ascending}
 use Rattle.folds.proofs.Lowest.{lowest_given}
 use Rattle.object.specs.Row.{dead}
-use Rattle.block.specs.declared.Verdict.{Verdict}
 use Rattle.block.specs.declared.Turn.{Turn}
-use Rattle.block.specs.declared.Verdict.TheVariants.{Refused, Accepted}
+use Rattle.std.specs.Prelude.{Ok, Err}
+use Rattle.refusals.specs.Refusals.{number, named}
+use Rattle.refusals.proofs.Refusals.{number_names, lowest_named, number_some}
+use Rattle.block.specs.Verdicts.{Verdict, refused}
 use Rattle.block.specs.Tables.{sound_block, fresh_block}
 use Rattle.block_laws.proofs.Sound as block-laws
 use Rattle.tables.specs.declared.Tally.{Tally}
@@ -40,12 +41,12 @@ one_answer x s v v' b b' l l' y y' e f = record {
 }
 
 pub refused_exactly : RefusedExactly
-refused_exactly x s v b l y e n = subst (λ (u : Verdict). (u ≡ Refused n) ↔ Lowest (lines (view_of x.tables s) s) n) (sym e.verdict) (tables.refused_exactly x.tables s n)
+refused_exactly x s v b l y e r = subst (λ (u : Verdict). (u ≡ Err r) ↔ Lowest (lines (view_of x.tables s) s) (number r)) (sym e.verdict) (tables.refused_exactly x.tables s r)
 
 -- a refusal adds one to the refused number
 counts : (y : Tally) (v : Verdict) → is_accepted v ≡ false → tallied y v ≡ record { accepted = y.accepted; refused = counted y.refused }
-counts y (Refused n) e = refl
-counts y (Accepted v d r) e = cc
+counts y (Err r) e = refl
+counts y (Ok a) e = cc
 
 pub refused_leaves : RefusedLeaves
 refused_leaves x s v b l y e out =
@@ -76,8 +77,9 @@ one_fresh_answer l₀ y₀ w r r' l l' y y' e f =
     }
 
 -- the turn where a number is given, and where none is
-given_some : (m w : ℕ) → (m ≡ 0 → ⊥) → fresh_turn m w ≡ record { verdict = Refused m; block = fresh_block 0 }
-given_some m w h = rw (ne_eqb m 0 h)
+given_some : (m w : ℕ) → (m ≡ 0 → ⊥) → fresh_turn m w ≡ record { verdict = refused m; block = fresh_block 0 }
+given_some zero w h = absurd (h refl)
+given_some (suc m) w h = refl
 
 given_none : (m w : ℕ) → m ≡ 0 → is_accepted (fresh_turn m w).verdict ≡ true
 given_none m w e = rw e
@@ -92,11 +94,6 @@ accepted_none m w h = go (ℕ_discrete m 0)
     go (yes e) = e
     go (no k) = absurd (false≢true (ap (λ z. is_accepted z.verdict) (sym (given_some m w k)) ∙ h))
 
--- no line has the number 0
-above_zero : (rows w n : ℕ) → Lowest (fresh_lines rows w) n → n ≡ 0 → ⊥
-unfolding holds
-above_zero rows w n h e = false≢true (subst (λ (k : ℕ). holds (fresh_lines rows w) k ≡ true) e h.here)
-
 pub fresh_exactly : FreshExactly
 unfolding fresh_refusal ascending
 fresh_exactly l₀ y₀ w r l y e n = (to, of)
@@ -104,18 +101,17 @@ fresh_exactly l₀ y₀ w r l y e n = (to, of)
     m : ℕ
     m = fresh_refusal (length l₀) w
 
-    to : r.verdict ≡ Refused n → Lowest (fresh_lines (length l₀) w) n
+    to : r.verdict ≡ Err n → Lowest (fresh_lines (length l₀) w) (number n)
     to v =
         let h = ap (λ z. z.verdict) (sym e.answer) ∙ v in
         let some = refused_some m w (ap is_accepted h) in
-        let k : m ≡ n = ap number_of (ap (λ z. z.verdict) (sym (given_some m w some)) ∙ h) in
-        (lowest_given (fresh_lines (length l₀) w) refl n (omega (arith, some, k))).0 k
+        let k : number (named m) ≡ number n = ap number_of (ap (λ z. z.verdict) (sym (given_some m w some)) ∙ h) in
+        (lowest_given (fresh_lines (length l₀) w) refl (number n) (number_some n)).0 (sym (lowest_named (fresh_lines (length l₀) w) refl some) ∙ k)
 
-    of : Lowest (fresh_lines (length l₀) w) n → r.verdict ≡ Refused n
+    of : Lowest (fresh_lines (length l₀) w) (number n) → r.verdict ≡ Err n
     of h =
-        let some = above_zero (length l₀) w n h in
-        let k : m ≡ n = (lowest_given (fresh_lines (length l₀) w) refl n (omega (arith, some))).1 h in
-        ap (λ z. z.verdict) (e.answer ∙ given_some m w (λ z. some (sym k ∙ z))) ∙ ap Refused k
+        let k : m ≡ number n = (lowest_given (fresh_lines (length l₀) w) refl (number n) (number_some n)).1 h in
+        ap (λ z. z.verdict) (e.answer ∙ given_some m w (λ z. omega (arith, k, z, number_some n))) ∙ ap refused k ∙ ap Err (number_names n)
 
 -- 64 dead rows are sound
 dead_sound : (w : ℕ) → sound_objects (fresh_tables w).objects ≡ true

@@ -1,13 +1,14 @@
 -- What the entries promise over what the caller lends: document 01, "The tables" and "Refusal numbers".
 -- Assumes nothing.
-use Rattle.std.specs.Prelude.{◌≡◌, false, not, cond, ◌||◌, List, [], ◌∷◌, ℕ, eqb, ltb, length}
+use Rattle.std.specs.Prelude.{◌≡◌, false, not, cond, ◌||◌, List, [], ◌∷◌, ℕ, eqb, ltb, length, Result, Ok, Err}
 use Rattle.folds.specs.Folds.{Line, lowest}
 use Rattle.steps.specs.declared.Step.{Step}
 use Rattle.object.specs.declared.Object.{Object}
 use Rattle.object.specs.Tokens.{slots}
 use Rattle.block.specs.declared.Block.{Block}
-use Rattle.block.specs.declared.Verdict.{Verdict}
-use Rattle.block.specs.declared.Verdict.TheVariants.{Refused, Accepted}
+use Rattle.refusals.specs.declared.Refusal.{Refusal}
+use Rattle.refusals.specs.Refusals.{unless}
+use Rattle.block.specs.Verdicts.{Verdict, accepted}
 use Rattle.block.specs.declared.Turn.{Turn}
 use Rattle.block.specs.Tables.{most_warps, fresh_block}
 use Rattle.tables.specs.declared.Tally.{Tally}
@@ -39,9 +40,14 @@ fresh_lines rows w = (not (eqb rows slots), 3) ∷ (eqb w 0 || ltb most_warps w,
 unfoldable pub fresh_refusal : ℕ → ℕ → ℕ
 fresh_refusal rows w = lowest (fresh_lines rows w)
 
--- the answer where n is given: value 0, done 0, released none and the fresh block; or the number, and a block of no warps, which is not sound
+-- the answer: value 0, done 0, released none and the fresh block; or the refusal, and a block of no warps, which is not sound
+abbrev pub turn_of : Result (Unit {0}) Refusal → ℕ → Turn
+turn_of (Ok t) w = record { verdict = accepted 0 false 0; block = (fresh_tables w).block }
+turn_of (Err r) w = record { verdict = Err r; block = fresh_block 0 }
+
+-- the answer where n is given
 abbrev pub fresh_turn : ℕ → ℕ → Turn
-fresh_turn n w = cond (eqb n 0) (record { verdict = Accepted 0 false 0; block = (fresh_tables w).block }) (record { verdict = Refused n; block = fresh_block 0 })
+fresh_turn n w = turn_of (unless n tt) w
 
 -- what it answers, and the list and the tally as they lie afterwards; a refusal leaves both
 pub record Freshened (l₀ : List Object) (y₀ : Tally) (w : ℕ) (r : Turn) (l : List Object) (y : Tally) : Type 0 where

@@ -1,13 +1,14 @@
 -- What is claimed of whatever the entries' promises allow, over any block, list, tally and step: demands 1 and 2 over what the caller lends.
 -- Assumes nothing.
-use Rattle.std.specs.Prelude.{◌≡◌, ◌↔◌, true, false, List, ℕ, length, get_or}
+use Rattle.std.specs.Prelude.{◌≡◌, ◌↔◌, true, false, List, ℕ, length, get_or, Err}
+use Rattle.refusals.specs.declared.Refusal.{Refusal}
+use Rattle.refusals.specs.Refusals.{number}
 use Rattle.folds.specs.Lowest.{Lowest}
 use Rattle.steps.specs.declared.Step.{Step}
 use Rattle.object.specs.declared.Object.{Object}
 use Rattle.object.specs.Row.{dead}
 use Rattle.block.specs.declared.Block.{Block}
-use Rattle.block.specs.declared.Verdict.{Verdict}
-use Rattle.block.specs.declared.Verdict.TheVariants.{Refused}
+use Rattle.block.specs.Verdicts.{Verdict}
 use Rattle.block.specs.declared.Turn.{Turn}
 use Rattle.tables.specs.declared.Tally.{Tally}
 use Rattle.tables.specs.Tables.{sound_tables, view_of, slot_of, is_accepted, counted}
@@ -30,11 +31,11 @@ OneAnswer =
     (x : State) (s : Step) (v v' : Verdict) (b b' : Block) (l l' : List Object) (y y' : Tally)
     → Stepped x s v b l y → Stepped x s v' b' l' y' → Same v v' b b' l l' y y'
 
--- it is refused with n exactly when line n applies and no lower line does
+-- it is refused with a line exactly when that line applies and no lower line does
 abbrev pub RefusedExactly : Type 0
 RefusedExactly =
     (x : State) (s : Step) (v : Verdict) (b : Block) (l : List Object) (y : Tally) → Stepped x s v b l y
-    → (n : ℕ) → (v ≡ Refused n) ↔ Lowest (lines (view_of x.tables s) s) n
+    → (e : Refusal) → (v ≡ Err e) ↔ Lowest (lines (view_of x.tables s) s) (number e)
 
 -- what a refused step leaves: only the tally counts it
 pub record Left (x : State) (b : Block) (l : List Object) (y : Tally) : Type 0 where
@@ -65,11 +66,11 @@ OneFreshAnswer =
     (l₀ : List Object) (y₀ : Tally) (w : ℕ) (r r' : Turn) (l l' : List Object) (y y' : Tally)
     → Freshened l₀ y₀ w r l y → Freshened l₀ y₀ w r' l' y' → Same r.verdict r'.verdict r.block r'.block l l' y y'
 
--- they are refused with n exactly when line n applies and no lower line does
+-- they are refused with a line exactly when that line applies and no lower line does
 abbrev pub FreshExactly : Type 0
 FreshExactly =
     (l₀ : List Object) (y₀ : Tally) (w : ℕ) (r : Turn) (l : List Object) (y : Tally) → Freshened l₀ y₀ w r l y
-    → (n : ℕ) → (r.verdict ≡ Refused n) ↔ Lowest (fresh_lines (length l₀) w) n
+    → (e : Refusal) → (r.verdict ≡ Err e) ↔ Lowest (fresh_lines (length l₀) w) (number e)
 
 -- and sound, over 32 warp rows and sixteen barrier rows, where they are not refused
 abbrev pub FreshSound : Type 0

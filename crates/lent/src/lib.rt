@@ -10,6 +10,5 @@ use steps::Step;
 pub fn slot(s: Step) -> usize
     ensures { result ≡ slot_of s.op }
 {
-    let op = s.op;
-    tables::slot_of(op)
+    tables::slot_of(s.op)
 }

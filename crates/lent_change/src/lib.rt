@@ -3,9 +3,9 @@
 
 ghost use Rattle.std.specs.Prelude.{◌≡◌, cond, ltb};
 ghost use Rattle.block_steps.specs.Steps.{released_warp, released_warps};
-ghost use Rattle.block_steps.specs.Changes.{changed};
+ghost use Rattle.block_steps.specs.Changes.{changed, restatused, restored};
 
-use block::{Block, MOST_WARPS, Status, Warp};
+use block::{Barrier, Block, MOST_WARPS, Status, Warp};
 use block_steps::{Change, Freed};
 
 // The row at i after a release; rows past the last warp stay.
@@ -18,15 +18,9 @@ fn released_at(f: Freed, i: usize, row: Warp) -> Warp
     if !sets::has(f.set, i as u8) {
         return row;
     }
-    if f.gives {
-        return Warp {
-            status: Status::Ready,
-            result: f.result,
-        };
-    }
     Warp {
         status: Status::Ready,
-        result: row.result,
+        result: f.result.unwrap_or(row.result),
     }
 }
 
@@ -37,11 +31,26 @@ fn release(rows: &mut [Warp], f: Freed)
     if f.set == 0 {
         return;
     }
-    let n = rows.len();
-    let mut i: usize = 0;
-    while i < n {
-        rows[i] = released_at(f, i, rows[i]);
-        i += 1;
+    for (i, row) in rows.iter_mut().enumerate() {
+        *row = released_at(f, i, *row);
+    }
+}
+
+// Gives a warp the status that a change gives, if it gives one.
+fn put_status(rows: &mut [Warp], status: Option<(u8, Status)>)
+    ensures { rows.new ≡ restatused rows.old status }
+{
+    if let Some((w, s)) = status {
+        lent_rows::put_status(rows, usize::from(w), s);
+    }
+}
+
+// Stores the barrier's row that a change gives, if it gives one.
+fn put_barrier(barriers: &mut [Barrier], row: Option<(u8, Barrier)>)
+    ensures { barriers.new ≡ restored barriers.old row }
+{
+    if let Some((k, r)) = row {
+        lent_rows::put_row(barriers, usize::from(k), r);
     }
 }
 
@@ -49,7 +58,7 @@ fn release(rows: &mut [Warp], f: Freed)
 pub fn change(b: &mut Block, c: Change)
     ensures { b.new ≡ changed b.old c }
 {
-    lent_rows::put_barrier(&mut b.barriers, c.barrier, c.row);
-    lent_rows::put_status(&mut b.rows, c.warp, c.status);
+    put_barrier(&mut b.barriers, c.row);
+    put_status(&mut b.rows, c.status);
     release(&mut b.rows, c.freed);
 }

@@ -2,45 +2,46 @@
 #![tactic(auto)]
 
 ghost use Rattle.std.specs.Prelude.{◌≡◌};
+ghost use Rattle.refusals.specs.Refusals.{judged};
 ghost use Rattle.tables.specs.Tables.{fresh_tally};
-ghost use Rattle.lent.specs.Entries.{fresh_refusal, fresh_turn, Freshened};
+ghost use Rattle.lent.specs.Entries.{fresh_lines, turn_of, Freshened};
 
-use block::{MOST_WARPS, Turn, Verdict};
+use block::{Accepted, MOST_WARPS, Turn};
 use object::{Object, SLOTS};
+use refusals::Refusal;
 use tables::Tally;
 
-// The lowest line that refuses fresh tables over so many records, and 0 if none does.
-pub fn fresh_refusal(rows: usize, warps: u8) -> u8
-    ensures { result ≡ fresh_refusal rows warps }
+// Refuses fresh tables over so many records for a number of warps, by the lowest line that applies.
+#[tactic(auto, unfolding(folds::specs::Folds::lowest))]
+pub fn fresh_refusal(rows: usize, warps: u8) -> Result<(), Refusal>
+    ensures { result ≡ judged (fresh_lines rows warps) }
 {
     if rows != SLOTS {
-        return 3;
+        return Err(Refusal::Unsound);
     }
     if (warps == 0) | (MOST_WARPS < warps) {
-        return 4;
+        return Err(Refusal::NoSuchWarp);
     }
-    0
+    Ok(())
 }
 
-// The answer to whoever asks for fresh tables, where the refusal number is n.
-pub fn fresh_turn(n: u8, warps: u8) -> Turn
-    ensures { result ≡ fresh_turn n warps }
+// The answer to whoever asks for fresh tables, refused or not.
+pub fn fresh_turn(judged: Result<(), Refusal>, warps: u8) -> Turn
+    ensures { result ≡ turn_of judged warps }
 {
-    if n != 0 {
-        let block = block::fresh(0);
-        return Turn {
-            verdict: Verdict::Refused(n),
-            block,
-        };
-    }
-    let block = block::fresh(warps);
-    Turn {
-        verdict: Verdict::Accepted {
-            value: 0,
-            done: false,
-            released: 0,
+    match judged {
+        Ok(()) => Turn {
+            verdict: Ok(Accepted {
+                value: 0,
+                done: false,
+                released: 0,
+            }),
+            block: block::fresh(warps),
         },
-        block,
+        Err(refusal) => Turn {
+            verdict: Err(refusal),
+            block: block::fresh(0),
+        },
     }
 }
 
@@ -58,11 +59,11 @@ pub fn fresh_tally() -> Tally
 pub fn fresh(objects: &mut [Object], tally: &mut Tally, warps: u8) -> Turn
     ensures { Freshened objects.old tally.old warps result objects.new tally.new }
 {
-    let n = fresh_refusal(objects.len(), warps);
-    if n != 0 {
-        return fresh_turn(n, warps);
+    let judged = fresh_refusal(objects.len(), warps);
+    if judged.is_err() {
+        return fresh_turn(judged, warps);
     }
     object_list::fresh_rows(objects);
     *tally = fresh_tally();
-    fresh_turn(n, warps)
+    fresh_turn(judged, warps)
 }

@@ -1,23 +1,26 @@
 // The way in for a run: tables are checked once, or are fresh, and then gone on with step after step without a check. Who is live is kept beside them.
 #![tactic(auto)]
 
-ghost use Rattle.std.specs.Prelude.{◌≡◌, ◌&&◌};
+ghost use Rattle.std.specs.Prelude.{◌≡◌, ◌&&◌, get_or, set};
+ghost use Rattle.object.specs.Row.{dead};
 ghost use Rattle.block.specs.Tables.{live_of, sound_block};
 ghost use Rattle.block_laws.specs.Sound.{Shaped};
-ghost use Rattle.tables.specs.Tables.{fresh_tables, is_accepted};
+ghost use Rattle.tables.specs.Tables.{fresh_tables};
+ghost use Rattle.step_decides.specs.Decides.{left_of};
 ghost use Rattle.lent.specs.Entries.{tables_of, state_of};
 ghost use Rattle.lent_run.specs.Run.{known, checked_of, checked_after, GoneOn};
 
 use block::{Block, MOST_WARPS, Verdict};
 use object::Object;
+use refusals::Refusal;
+use step_decides::Decided;
 use steps::Step;
 use tables::Tally;
 
-// What is known of tables: whether they are sound and, where they are, which warps have not exited. No other crate makes one: a check does, fresh tables have one, and going on hands the next one back.
+// What is known of tables: which warps have not exited, where the tables are sound, and of others nothing. No other crate makes one: a check does, fresh tables have one, and going on hands the next one back.
 #[derive(Clone, Copy)]
 pub struct Checked {
-    sound: bool,
-    live: u32,
+    live: Option<u32>,
 }
 
 // A step's verdict, and what is known of the tables after it.
@@ -32,14 +35,10 @@ pub fn fresh_checked(warps: u8) -> Checked
     ensures { result ≡ checked_of (fresh_tables warps) }
 {
     if (warps == 0) | (MOST_WARPS < warps) {
-        return Checked {
-            sound: false,
-            live: 0,
-        };
+        return Checked { live: None };
     }
     Checked {
-        sound: true,
-        live: sets::below(warps),
+        live: Some(sets::below(warps)),
     }
 }
 
@@ -49,14 +48,10 @@ fn found(b: Block, fine: bool) -> Checked
     ensures shaped { Shaped b }
 {
     if !(block_sound::sound(b) & fine) {
-        return Checked {
-            sound: false,
-            live: 0,
-        };
+        return Checked { live: None };
     }
     Checked {
-        sound: true,
-        live: block_sound::live(b),
+        live: Some(block_sound::live(b)),
     }
 }
 
@@ -69,50 +64,48 @@ pub fn check(b: &mut Block, objects: &[Object]) -> Checked
     found(*b, fine)
 }
 
-// Whether a verdict is no refusal.
-fn is_accepted(v: Verdict) -> bool
-    ensures { result ≡ is_accepted v }
+// What is known after a step with this verdict: only an accepted exit changes who is live.
+fn known_after(c: Checked, s: Step, v: Verdict) -> Checked
+    ensures { result ≡ checked_after c s v }
 {
-    match v {
-        Verdict::Refused(_) => false,
-        Verdict::Accepted {
-            value: _,
-            done: _,
-            released: _,
-        } => true,
+    let Some(live) = c.live else {
+        return c;
+    };
+    if !(step_decides::is_exit(s.op) & v.is_ok()) {
+        return c;
+    }
+    Checked {
+        live: Some(sets::less(live, s.warp)),
     }
 }
 
-// The verdict, and what is known after it: only an accepted exit changes who is live.
-fn answer(c: Checked, s: Step, v: Verdict) -> Gone
-    ensures { result ≡ record { verdict = v; checked = checked_after c s v } }
+// Makes what was decided, in the block and in row i of the list; a refusal changes neither.
+fn carry_out(
+    b: &mut Block,
+    objects: &mut [Object],
+    i: usize,
+    decided: Result<Decided, Refusal>,
+) -> Verdict
+    ensures verdict { result ≡ (left_of b.old (get_or objects.old i dead) decided).verdict }
+    ensures block { b.new ≡ (left_of b.old (get_or objects.old i dead) decided).block }
+    ensures objects { objects.new ≡ set objects.old i (left_of b.old (get_or objects.old i dead) decided).object }
 {
-    let op = s.op;
-    if !(step_decides::is_exit(op) & is_accepted(v)) {
-        return Gone {
-            verdict: v,
-            checked: c,
-        };
-    }
-    Gone {
-        verdict: v,
-        checked: Checked {
-            sound: c.sound,
-            live: sets::less(c.live, s.warp),
-        },
-    }
+    let d = decided?;
+    object_list::put_row(objects, i, d.object);
+    lent_change::change(b, d.change);
+    Ok(d.accepted)
 }
 
 // One step on tables of which this is known, without a check: 3 where they are not sound, and else what the step makes of the rows that it sees and of who is live. Refused, it leaves block and list; either way the tally counts it.
 pub fn go_on(b: &mut Block, objects: &mut [Object], tally: &mut Tally, c: Checked, s: Step) -> Gone
     ensures { GoneOn (state_of b.old objects.old tally.old) c s result b.new objects.new tally.new }
 {
-    let at = lent::slot(s);
-    let row = object_list::row_at(objects, at);
-    let seen = lent_seen::see(&mut *b, c.sound, c.live, s);
-    let d = step_decides::decide(seen, row, s);
-    object_list::put_row(objects, at, d.object);
-    tally::count(tally, d.verdict);
-    lent_change::change(b, d.change);
-    answer(c, s, d.verdict)
+    let i = lent::slot(s);
+    let row = object_list::row_at(objects, i);
+    let seen = lent_seen::see(&mut *b, c.live.is_some(), c.live.unwrap_or(0), s);
+    let decided = step_decides::decide(seen, row, s);
+    let verdict = carry_out(b, objects, i, decided);
+    tally::count(tally, verdict);
+    let checked = known_after(c, s, verdict);
+    Gone { verdict, checked }
 }

@@ -1,11 +1,10 @@
 -- What is claimed of going on: where what is known of the tables is so, it is the checked step, and so is a run of any length.
 -- Assumes nothing.
-use Rattle.std.specs.Prelude.{◌≡◌, true, false, List, [], ◌∷◌, length, replicate}
+use Rattle.std.specs.Prelude.{◌≡◌, true, List, [], ◌∷◌, length, replicate, Some, None, is_some}
 use Rattle.steps.specs.declared.Step.{Step}
 use Rattle.object.specs.declared.Object.{Object}
 use Rattle.block.specs.declared.Block.{Block}
-use Rattle.block.specs.declared.Verdict.{Verdict}
-use Rattle.block.specs.declared.Verdict.TheVariants.{Refused}
+use Rattle.block.specs.Verdicts.{Verdict, refused}
 use Rattle.block.specs.Tables.{live_of}
 use Rattle.block_laws.specs.Sound.{Shaped}
 use Rattle.tables.specs.declared.Tally.{Tally}
@@ -18,8 +17,8 @@ use Rattle.lent_run.specs.Run.{checked_of, Reached, onward, GoneOn}
 
 -- what is known of tables is so: whether they are sound and, where they are, who has not exited
 pub record Fits (c : Checked) (t : Tables) : Type 0 where
-  pub sound : c.sound ≡ sound_tables t
-  pub live : sound_tables t ≡ true → c.live ≡ live_of t.block
+  pub sound : is_some c.live ≡ sound_tables t
+  pub live : sound_tables t ≡ true → c.live ≡ Some (live_of t.block)
 
 -- what a check finds is so, of any tables
 abbrev pub CheckFits : Type 0
@@ -65,8 +64,8 @@ RunsOn = (x : State) (c : Checked) (l : List Step) → Shaped x.tables.block →
 
 -- over tables that are known to be unsound every step is refused with 3, and the tables stay as they are
 pub record AllRefused (x : State) (c : Checked) (l : List Step) : Type 0 where
-  pub verdicts : verdicts_on x c l ≡ replicate (length l) (Refused 3)
+  pub verdicts : verdicts_on x c l ≡ replicate (length l) (refused 3)
   pub tables : (state_on x c l).tables ≡ x.tables
 
 abbrev pub UnsoundRefused : Type 0
-UnsoundRefused = (x : State) (c : Checked) (l : List Step) → Shaped x.tables.block → c.sound ≡ false → AllRefused x c l
+UnsoundRefused = (x : State) (c : Checked) (l : List Step) → Shaped x.tables.block → c.live ≡ None → AllRefused x c l

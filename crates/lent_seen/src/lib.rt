@@ -4,43 +4,41 @@
 ghost use Rattle.std.specs.Prelude.{◌≡◌};
 ghost use Rattle.tables.specs.Tables.{barrier_for, seen_of};
 
-use block::{Barrier, Block, Warp};
+use block::Block;
 use steps::Step;
 use tables::Seen;
 
-// The barrier whose row the step may change, where those of live have not exited; the block stays as it is. It is lent as one that may change, since a field of a lent block is lent on so.
-fn barrier_for(b: &mut Block, live: u32, s: Step) -> u8
-    ensures { (result ≡ barrier_for live b.old s.warp s.op) × (b.new ≡ b.old) }
+// The barrier whose row the step may change, where those of live have not exited.
+fn barrier_for(b: &Block, live: u32, s: Step) -> u8
+    ensures { result ≡ barrier_for live b.now s.warp s.op }
 {
-    let op = s.op;
-    if !step_decides::is_exit(op) {
-        return step_decides::named_barrier(op);
+    if !step_decides::is_exit(s.op) {
+        return step_decides::named_barrier(s.op);
     }
-    let barriers = b.barriers;
-    block_exit::opened(barriers, live, s.warp)
-}
-
-// What is seen, put together.
-fn together(sound: bool, warps: u8, live: u32, warp: Warp, at: u8, barrier: Barrier) -> Seen
-    ensures { result ≡ record { sound = sound; warps = warps; live = live; warp = warp; at = at; barrier = barrier } }
-{
-    Seen {
-        sound,
-        warps,
-        live,
-        warp,
-        at,
-        barrier,
-    }
+    block_exit::opened(b.barriers, live, s.warp)
 }
 
 // What the step sees of the block of tables that are sound or not, of whose warps those of live have not exited; the block stays as it is.
 pub fn see(b: &mut Block, sound: bool, live: u32, s: Step) -> Seen
     ensures { (result ≡ seen_of sound live b.old s) × (b.new ≡ b.old) }
 {
-    let warps = b.warps;
-    let at = barrier_for(&mut *b, live, s);
-    let warp = lent_rows::warp_at(&b.rows, s.warp as usize);
-    let barrier = lent_rows::barrier_at(&b.barriers, at as usize);
-    together(sound, warps, live, warp, at, barrier)
+    let at = barrier_for(b, live, s);
+    let warp = b
+        .rows
+        .get(usize::from(s.warp))
+        .copied()
+        .unwrap_or(block::fresh_warp());
+    let barrier = b
+        .barriers
+        .get(usize::from(at))
+        .copied()
+        .unwrap_or(block::idle_row());
+    Seen {
+        sound,
+        warps: b.warps,
+        live,
+        warp,
+        at,
+        barrier,
+    }
 }

@@ -1,9 +1,9 @@
 -- The lines that are printed, as ASCII bytes: document 01, "What the program prints".
 -- Assumes nothing.
-use Rattle.std.specs.Prelude.{Bool, true, false, List, [], ◌∷◌, ◌++◌, ℕ}
+use Rattle.std.specs.Prelude.{Bool, true, false, List, [], ◌∷◌, ◌++◌, ℕ, Ok, Err}
 use Rattle.digits.specs.Digits.{decimal, warps}
-use Rattle.block.specs.declared.Verdict.{Verdict}
-use Rattle.block.specs.declared.Verdict.TheVariants.{Refused, Accepted}
+use Rattle.refusals.specs.Refusals.{number}
+use Rattle.block.specs.Verdicts.{Verdict}
 
 -- ---- words
 
@@ -42,8 +42,8 @@ line (w ∷ x ∷ ws) = w ++ space ∷ line (x ∷ ws)
 
 -- `N ok V D M` or `N no R`
 unfoldable pub line_of : ℕ → Verdict → List ℕ
-line_of n (Accepted v d m) = line (decimal n ∷ ok ∷ decimal v ∷ (flag d ∷ []) ∷ warps m ∷ [])
-line_of n (Refused r) = line (decimal n ∷ no ∷ decimal r ∷ [])
+line_of n (Ok a) = line (decimal n ∷ ok ∷ decimal a.value ∷ (flag a.done ∷ []) ∷ warps a.released ∷ [])
+line_of n (Err r) = line (decimal n ∷ no ∷ decimal (number r) ∷ [])
 
 -- `end A B`
 unfoldable pub end_of : ℕ → ℕ → List ℕ

@@ -1,14 +1,14 @@
 // The lines that are printed, laid into a buffer that the caller lends.
 #![tactic(auto)]
 
-ghost use Rattle.std.specs.Prelude.{◌≡◌, ◌++◌, ◌+◌, length};
+ghost use Rattle.std.specs.Prelude.{◌≡◌, ◌+◌, ◌≤◌, length, Ok, Err};
 ghost use Rattle.std.proofs.lemmas.List.Edits.{sets};
 ghost use Rattle.fields.specs.Num.{laid};
-ghost use Rattle.block.specs.declared.Verdict.TheVariants.{Accepted, Refused};
-ghost use Rattle.digits.specs.Digits.{decimal};
+ghost use Rattle.digits.specs.Digits.{decimal, warps};
 ghost use Rattle.lines.specs.Lines.{flag, most_line, line_of, end_of};
 
-use block::Verdict;
+use block::{Accepted, Verdict};
+use refusals::Refusal;
 
 // A line has at most 56 bytes.
 pub const MOST_LINE: usize = 56;
@@ -24,68 +24,90 @@ fn flag_of(done: bool) -> u8
     if done { b'1' } else { b'0' }
 }
 
-// Lays the number of a line, and a word after it, at the start of a buffer; answers the place after both.
-fn put_start(out: &mut [u8], n: u64, word: &[u8]) -> usize
-    requires { (length out.old ≡ most_line) × (length word.now ≡ 4) }
-    ensures { (result ≡ length (decimal n) + 4) × (out.new ≡ sets out.old 0 (decimal n ++ word.now)) }
+// Lays a word of a line from a place on; answers the place after it.
+#[tactic(auto, using(fields::proofs::Num::laid_fits))]
+fn put_word(line: &mut [u8; MOST_LINE], at: usize, word: &[u8]) -> usize
+    requires { at + length word.now ≤ most_line }
+    ensures { (result ≡ at + length word.now) × (line.new ≡ sets line.old at word.now) }
 {
-    let a = digits::put_decimal(&mut *out, 0, n);
-    digits::put(&mut *out, a, word);
-    a + word.len()
+    digits::put(&mut *line, at, word);
+    at + word.len()
 }
 
-// Lays the line of an accepted step at the start of a buffer; answers its length.
-fn put_ok(out: &mut [u8], n: u64, value: u64, done: bool, released: u32) -> usize
-    requires { length out.old ≡ most_line }
-    ensures { (result ≡ length (line_of n (Accepted value done released))) × (out.new ≡ sets out.old 0 (line_of n (Accepted value done released))) }
+// Lays a number of a line from a place on; answers the place after it.
+#[tactic(auto, using(fields::proofs::Num::laid_fits))]
+fn put_number(line: &mut [u8; MOST_LINE], at: usize, n: u64) -> usize
+    requires { at + length (decimal n) ≤ most_line }
+    ensures { (result ≡ at + length (decimal n)) × (line.new ≡ sets line.old at (decimal n)) }
 {
-    let a = put_start(&mut *out, n, b" ok ");
-    let b = a + digits::put_decimal(&mut *out, a, value);
-    out[b] = SPACE;
-    out[b + 1] = flag_of(done);
-    out[b + 2] = SPACE;
-    digits::put_warps(&mut *out, b + 3, released);
-    out[b + 11] = NEWLINE;
-    b + 12
+    at + digits::put_decimal(&mut *line, at, n)
 }
 
-// Lays the line of a refused step at the start of a buffer; answers its length.
-fn put_no(out: &mut [u8], n: u64, refusal: u8) -> usize
-    requires { length out.old ≡ most_line }
-    ensures { (result ≡ length (line_of n (Refused refusal))) × (out.new ≡ sets out.old 0 (line_of n (Refused refusal))) }
+// Lays a set of warps of a line from a place on; answers the place after it.
+#[tactic(auto, using(digits::proofs::Digits::length_warps))]
+fn put_set(line: &mut [u8; MOST_LINE], at: usize, set: u32) -> usize
+    requires { at + length (warps set) ≤ most_line }
+    ensures { (result ≡ at + length (warps set)) × (line.new ≡ sets line.old at (warps set)) }
 {
-    let a = put_start(&mut *out, n, b" no ");
-    let b = a + digits::put_decimal(&mut *out, a, refusal as u64);
-    out[b] = NEWLINE;
-    b + 1
+    digits::put_warps(&mut *line, at, set);
+    at + 8
 }
 
-// Lays the line of a step at the start of a buffer; answers its length.
-fn spell(out: &mut [u8], n: u64, verdict: Verdict) -> usize
-    requires { length out.old ≡ most_line }
-    ensures { (result ≡ length (line_of n verdict)) × (out.new ≡ sets out.old 0 (line_of n verdict)) }
+// Makes the line of an accepted step; answers its length.
+#[tactic(auto, using(digits::proofs::Digits::decimal_most, digits::proofs::Digits::length_warps))]
+fn put_ok(line: &mut [u8; MOST_LINE], n: u64, a: Accepted) -> usize
+    ensures { (result ≡ length (line_of n (Ok a))) × (line.new ≡ sets line.old 0 (line_of n (Ok a))) }
+{
+    let at = put_number(&mut *line, 0, n);
+    let at = put_word(&mut *line, at, b" ok ");
+    let at = put_number(&mut *line, at, a.value);
+    let at = put_word(&mut *line, at, &[SPACE, flag_of(a.done), SPACE]);
+    let at = put_set(&mut *line, at, a.released);
+    put_word(&mut *line, at, &[NEWLINE])
+}
+
+// Makes the line of a refused step; answers its length.
+#[tactic(auto, using(digits::proofs::Digits::decimal_most))]
+fn put_no(line: &mut [u8; MOST_LINE], n: u64, refusal: Refusal) -> usize
+    ensures { (result ≡ length (line_of n (Err refusal))) × (line.new ≡ sets line.old 0 (line_of n (Err refusal))) }
+{
+    let at = put_number(&mut *line, 0, n);
+    let at = put_word(&mut *line, at, b" no ");
+    let at = put_number(&mut *line, at, u64::from(refusal.number()));
+    put_word(&mut *line, at, &[NEWLINE])
+}
+
+// Makes the line of a step; answers its length.
+fn spell(line: &mut [u8; MOST_LINE], n: u64, verdict: Verdict) -> usize
+    ensures { (result ≡ length (line_of n verdict)) × (line.new ≡ sets line.old 0 (line_of n verdict)) }
 {
     match verdict {
-        Verdict::Refused(refusal) => put_no(&mut *out, n, refusal),
-        Verdict::Accepted {
-            value,
-            done,
-            released,
-        } => put_ok(&mut *out, n, value, done, released),
+        Ok(a) => put_ok(line, n, a),
+        Err(refusal) => put_no(line, n, refusal),
     }
 }
 
-// Lays the end line at the start of a buffer; answers its length.
-fn spell_end(out: &mut [u8], accepted: u32, refused: u32) -> usize
-    requires { length out.old ≡ most_line }
-    ensures { (result ≡ length (end_of accepted refused)) × (out.new ≡ sets out.old 0 (end_of accepted refused)) }
+// Makes the line of a step at the start of a buffer that has the room for any; answers its length.
+fn put_first(out: &mut [u8], n: u64, verdict: Verdict) -> usize
+    requires { most_line ≤ length out.old }
+    ensures { (result ≡ length (line_of n verdict)) × (out.new ≡ sets out.old 0 (line_of n verdict)) }
 {
-    digits::put(&mut *out, 0, b"end ");
-    let a = 4 + digits::put_decimal(&mut *out, 4, accepted as u64);
-    out[a] = SPACE;
-    let b = a + 1 + digits::put_decimal(&mut *out, a + 1, refused as u64);
-    out[b] = NEWLINE;
-    b + 1
+    let Some(line) = out.first_chunk_mut::<MOST_LINE>() else {
+        unreachable!()
+    };
+    spell(line, n, verdict)
+}
+
+// Makes the end line; answers its length.
+#[tactic(auto, using(digits::proofs::Digits::decimal_most))]
+fn spell_end(line: &mut [u8; MOST_LINE], accepted: u32, refused: u32) -> usize
+    ensures { (result ≡ length (end_of accepted refused)) × (line.new ≡ sets line.old 0 (end_of accepted refused)) }
+{
+    let at = put_word(&mut *line, 0, b"end ");
+    let at = put_number(&mut *line, at, u64::from(accepted));
+    let at = put_word(&mut *line, at, &[SPACE]);
+    let at = put_number(&mut *line, at, u64::from(refused));
+    put_word(&mut *line, at, &[NEWLINE])
 }
 
 // The same as put_line, the line made apart and then laid where it fits.
@@ -108,8 +130,7 @@ pub fn put_line(out: &mut [u8], at: usize, n: u64, verdict: Verdict) -> usize
     if out.len() - at < MOST_LINE {
         return put_apart(&mut *out, at, n, verdict);
     }
-    let end = at + MOST_LINE;
-    spell(&mut out[at..end], n, verdict)
+    put_first(&mut out[at..], n, verdict)
 }
 
 // Lays the end line from at on, where it fits, and else nothing; answers its length.

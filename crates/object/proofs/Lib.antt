@@ -1,4 +1,3 @@
-pub mod Signed
 pub mod Row
 pub mod Tokens
 pub mod Steps

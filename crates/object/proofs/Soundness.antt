@@ -4,19 +4,17 @@ use Prim.Native.Nat.{ℕ, ◌+◌, ◌≤◌}
 use mathlib.Core.Path.{◌≡◌, refl, ap}
 use mathlib.Core.Bool.{Bool, true, false, not, cond, ◌&&◌, ◌||◌, or-true}
 use native.Mathlib.Omega.{arith}
-use borrow.Author.Tests.{leb-true, le-leb, ltb-false, eqb-true, eqb-false, ne_eqb, not-true, not-false}
-use lib.Dec.{ltb, leb, eqb}
+use borrow.Author.Tests.{eqb-false, ne_eqb, not-false}
+use lib.Dec.{eqb}
 use lib.IntN.{ℤ, pos, ◌+ℤ◌, ◌-ℤ◌}
 use lib.ListN.{get_or}
-use Rattle.folds.proofs.Folds.{and_left, and_right}
 use Rattle.object.specs.declared.Object.{Object}
 use Rattle.object.specs.declared.Act.{Act}
 use Rattle.object.specs.declared.Act.TheVariants.{Init, Inval, Arrive, Expect, Complete, Token, Parity}
-use Rattle.object.specs.Row.{most, last_phase, is_zero, outside, fresh, with_tx, arrives, told, both_zero, acted, next_phase, row_after, bad_init, bad_arrival, token_says, parity_says, lines}
-use Rattle.object.specs.Soundness.{expected_sound, pending_sound, tx_sound, phase_sound, seen_sound, live_sound, dead_sound, sound_row, KeepsSound, Widths, SoundFits}
-use Rattle.object.proofs.Row.{or_left, or_right, count_below}
-use Rattle.object.proofs.Signed.{inside_fits}
-use Rattle.object.proofs.Steps.{zero_is, accepted_as, passes}
+use Rattle.object.specs.Row.{most, last_phase, outside, fresh, with_tx, arrives, told, both_zero, acted, next_phase, row_after, bad_init, bad_arrival, token_says, parity_says, lines}
+use Rattle.object.specs.Soundness.{seen_sound, dead_sound, sound_row, KeepsSound, Widths, SoundFits}
+use Rattle.object.proofs.Row.{count_below, inside_fits}
+use Rattle.object.proofs.Steps.{accepted_as, passes}
 
 -- ---- a live row's facts, and the test
 
@@ -30,25 +28,10 @@ record Live (o : Object) : Type 0 where
   pub first : seen_sound o ≡ true
 
 sound_live : (o : Object) → sound_row o ≡ true → o.live ≡ true → Live o
-sound_live o h l =
-    let e : live_sound o ≡ true = rw l at h in
-    let d = and_left (expected_sound o && pending_sound o && tx_sound o && phase_sound o) (seen_sound o) e in
-    let c = and_left (expected_sound o && pending_sound o && tx_sound o) (phase_sound o) d in
-    let b = and_left (expected_sound o && pending_sound o) (tx_sound o) c in
-    let a = and_left (expected_sound o) (pending_sound o) b in
-    record {
-      live = l;
-      some = leb-true 1 o.expected (and_left (leb 1 o.expected) (leb o.expected most) a);
-      few = leb-true o.expected most (and_right (leb 1 o.expected) (leb o.expected most) a);
-      pending = leb-true o.pending o.expected (and_right (expected_sound o) (pending_sound o) b);
-      inside = not-true (outside o.tx) (and_right (expected_sound o && pending_sound o) (tx_sound o) c);
-      phase = leb-true o.phase last_phase (and_right (expected_sound o && pending_sound o && tx_sound o) (phase_sound o) d);
-      first = and_right (expected_sound o && pending_sound o && tx_sound o && phase_sound o) (seen_sound o) e;
-    }
+sound_live o h l = record { live = l; some = grind arith; few = grind arith; pending = grind arith; inside = grind arith; phase = grind arith; first = grind arith }
 
 live_sound_lem : (o : Object) → Live o → sound_row o ≡ true
-live_sound_lem o h =
-    simp (h.live, le-leb 1 o.expected h.some, le-leb o.expected most h.few, le-leb o.pending o.expected h.pending, h.inside, le-leb o.phase last_phase h.phase, h.first)
+live_sound_lem o h = grind (arith, h)
 
 -- ---- what a step leaves of a live row
 
@@ -85,18 +68,7 @@ module _ (o : Object) (k : Live o) where
   at_arrival n false b = record { live = k.live; some = k.some; few = k.few; pending = omega arith; inside = k.inside; phase = k.phase; first = k.first }
 
 at_init : (n : ℕ) → bad_init n ≡ false → Live (fresh n)
-at_init n b = record {
-  live = refl;
-  some = least (eqb-false n 0 (or_left (eqb n 0) (ltb most n) b));
-  few = ltb-false most n (or_right (eqb n 0) (ltb most n) b);
-  pending = omega arith;
-  inside = refl;
-  phase = omega arith;
-  first = refl;
-}
-  where
-    least : (n ≡ 0 → ⊥) → 1 ≤ n
-    least f = omega arith
+at_init n b = record { live = refl; some = grind arith; few = grind arith; pending = omega arith; inside = refl; phase = omega arith; first = refl }
 
 -- ---- every step
 
@@ -119,25 +91,17 @@ module _ (o : Object) (slot : ℕ) (h : sound_row o ≡ true) where
   after (Parity q) p = live_sound_lem _ (at_told o (alive (p 0)) (parity_says o q))
 
 pub keeps_sound : KeepsSound
-keeps_sound o slot a o' v d h e =
-    let k = accepted_as o slot a o' v d e in
+keeps_sound o slot a r h e =
+    let k = accepted_as o slot a r e in
     rw k.1 (after o slot h a (passes o slot a k.0))
 
 -- ---- widths
 
 dead_fits : (o : Object) → dead_sound o ≡ true → Widths o
-dead_fits o h =
-    let d = and_left (eqb o.expected 0 && eqb o.pending 0 && is_zero o.tx && eqb o.phase 0) (not o.seen) h in
-    let c = and_left (eqb o.expected 0 && eqb o.pending 0 && is_zero o.tx) (eqb o.phase 0) d in
-    let b = and_left (eqb o.expected 0 && eqb o.pending 0) (is_zero o.tx) c in
-    let e = eqb-true o.expected 0 (and_left (eqb o.expected 0) (eqb o.pending 0) b) in
-    let p = eqb-true o.pending 0 (and_right (eqb o.expected 0) (eqb o.pending 0) b) in
-    let f = eqb-true o.phase 0 (and_right (eqb o.expected 0 && eqb o.pending 0 && is_zero o.tx) (eqb o.phase 0) d) in
-    let t = zero_is o.tx (and_right (eqb o.expected 0 && eqb o.pending 0) (is_zero o.tx) c) in
-    record { expected = omega arith; pending = omega arith; tx = rw t (omega arith); phase = omega arith }
+dead_fits o h = record { expected = grind arith; pending = grind arith; tx = grind arith; phase = grind arith }
 
 live_fits : (o : Object) → Live o → Widths o
-live_fits o k = record { expected = omega arith; pending = omega arith; tx = (inside_fits o.tx k.inside).sfits; phase = omega arith }
+live_fits o k = record { expected = omega arith; pending = omega arith; tx = inside_fits o.tx k.inside; phase = omega arith }
 
 pub sound_fits : SoundFits
 sound_fits o h = by o.live refl

@@ -1,13 +1,14 @@
 -- One mbarrier object's row, and what each step does to it (document 01, "Mbarrier objects" and "Refusal numbers").
 -- Assumes nothing.
-use Rattle.std.specs.Prelude.{ℕ, zero, suc, ◌+◌, ◌-◌, ◌%◌, Bool, true, false, not, cond, ◌&&◌, ◌||◌, List, [], ◌∷◌, ltb, leb, eqb, ℤ, pos, negsuc, neg_ℤ, ◌+ℤ◌, ◌-ℤ◌}
+use Rattle.std.specs.Prelude.{ℕ, ◌+◌, ◌-◌, ◌%◌, Bool, true, false, not, cond, ◌&&◌, ◌||◌, List, [], ◌∷◌, ltb, leb, eqb, Result, ℤ, pos, negsuc, neg_ℤ, ◌+ℤ◌, ◌-ℤ◌}
 use Rattle.std.specs.Int.Signed.{lt_z}
 use Rattle.folds.specs.Folds.{digit, Line, lowest}
 use Rattle.object.specs.declared.Object.{Object}
 use Rattle.object.specs.declared.Act.{Act}
 use Rattle.object.specs.declared.Act.TheVariants.{Init, Inval, Arrive, Expect, Complete, Token, Parity}
 use Rattle.object.specs.declared.Answer.{Answer}
-use Rattle.object.specs.declared.Answer.TheVariants.{Refused, Accepted}
+use Rattle.refusals.specs.declared.Refusal.{Refusal}
+use Rattle.refusals.specs.Refusals.{unless}
 use Rattle.object.specs.Tokens.{token, phase_in, slot_in, too_large}
 
 -- 1,048,575: the most that is expected, and the most transactions either way
@@ -242,11 +243,14 @@ refusal o slot a = lowest (lines o slot a)
 
 -- ---- a step
 
--- the refusal, or where it is 0 what is answered else
-abbrev pub unless : ℕ → Answer → Answer
-unless zero a = a
-unless (suc n) a = Refused (suc n)
+-- what an accepted step leaves and answers that completes no phase
+abbrev pub not_done : Object → ℕ → Answer
+not_done o v = record { row = o; value = v; done = false }
+
+-- what an accepted step leaves and answers: the row after it, its value, and whether the phase completed
+abbrev pub answered : Object → ℕ → Act → Answer
+answered o slot a = record { row = row_after o a; value = value_of o slot a; done = ends o a }
 
 -- a step on the row of the object at a slot, which is its address divided by 8
-unfoldable pub step_row : Object → ℕ → Act → Answer
-step_row o slot a = unless (refusal o slot a) (Accepted (row_after o a) (value_of o slot a) (ends o a))
+unfoldable pub step_row : Object → ℕ → Act → Result Answer Refusal
+step_row o slot a = unless (refusal o slot a) (answered o slot a)

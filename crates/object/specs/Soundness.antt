@@ -1,10 +1,10 @@
 -- When a row is sound (document 01, "The tables").
 -- Assumes nothing.
-use Rattle.std.specs.Prelude.{Bool, true, not, cond, ◌&&◌, ◌||◌, ◌≡◌, ℕ, ◌^◌, ◌<◌, leb, eqb}
+use Rattle.std.specs.Prelude.{Bool, true, not, cond, ◌&&◌, ◌||◌, ◌≡◌, ℕ, ◌^◌, ◌<◌, leb, eqb, Ok}
 use Rattle.std.specs.Int.Signed.{mag}
 use Rattle.object.specs.declared.Object.{Object}
 use Rattle.object.specs.declared.Act.{Act}
-use Rattle.object.specs.declared.Answer.TheVariants.{Accepted}
+use Rattle.object.specs.declared.Answer.{Answer}
 use Rattle.object.specs.Row.{most, last_phase, is_zero, outside, step_row}
 
 -- "expected 1 to 1,048,575"
@@ -42,8 +42,8 @@ sound_row o = cond o.live (live_sound o) (dead_sound o)
 -- an accepted step keeps a sound row sound
 abbrev pub KeepsSound : Type 0
 KeepsSound =
-    (o : Object) (slot : ℕ) (a : Act) (o' : Object) (v : ℕ) (d : Bool)
-    → sound_row o ≡ true → step_row o slot a ≡ Accepted o' v d → sound_row o' ≡ true
+    (o : Object) (slot : ℕ) (a : Act) (r : Answer)
+    → sound_row o ≡ true → step_row o slot a ≡ Ok r → sound_row r.row ≡ true
 
 -- the fields of a row within their widths, u32 and i32
 pub record Widths (o : Object) : Type 0 where

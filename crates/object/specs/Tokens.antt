@@ -1,9 +1,9 @@
 -- An arrival's token, and what is read off one (document 01, "Mbarrier objects").
 -- Assumes nothing.
-use Rattle.std.specs.Prelude.{ℕ, ◌+◌, ◌*◌, ◌/◌, ◌%◌, ◌^◌, ◌<◌, ◌≡◌, Bool, cond, leb}
+use Rattle.std.specs.Prelude.{ℕ, ◌+◌, ◌*◌, ◌/◌, ◌%◌, ◌^◌, ◌<◌, ◌≡◌, Bool, cond, leb, Result, Ok, Err}
 use Rattle.object.specs.declared.Object.{Object}
-use Rattle.object.specs.declared.Count.{Count}
-use Rattle.object.specs.declared.Count.TheVariants.{NoToken, Pending}
+use Rattle.refusals.specs.declared.Refusal.{Refusal}
+use Rattle.refusals.specs.declared.Refusal.TheVariants.{BadToken}
 
 -- "address divided by 8 times 2^20"
 abbrev pub slot_unit : ℕ
@@ -42,8 +42,8 @@ abbrev pub too_large : ℕ → Bool
 too_large t = leb token_end t
 
 -- "Pending count answers the token's remainder by 2^20", or 19
-abbrev pub pending_count : ℕ → Count
-pending_count t = cond (too_large t) (NoToken 19) (Pending (pending_in t))
+abbrev pub pending_count : ℕ → Result ℕ Refusal
+pending_count t = cond (too_large t) (Err BadToken) (Ok (pending_in t))
 
 -- a row's token gives back its phase, slot and pending count, and is below 2^58
 pub record Apart (o : Object) (slot : ℕ) : Type 0 where

@@ -3,29 +3,31 @@
 
 ghost use Rattle.std.specs.Prelude.{◌≡◌};
 ghost use Rattle.object.specs.Tokens.{token, pending_count};
-ghost use Rattle.object.specs.Row.{dead, outside, step_row};
-ghost use Rattle.object.specs.Soundness.{live_sound, dead_sound, sound_row};
+ghost use Rattle.object.specs.Row.{dead, not_done, outside, step_row};
+ghost use Rattle.object.specs.Soundness.{live_sound, sound_row};
+
+use refusals::Refusal;
 
 // There are 64 objects.
 pub const SLOTS: usize = 64;
 
 // The most that is expected, and the most transactions either way.
-pub const MOST: u32 = 1048575;
+pub const MOST: u32 = 1_048_575;
 
 // The last phase.
-pub const LAST_PHASE: u32 = 4294967295;
+pub const LAST_PHASE: u32 = u32::MAX;
 
-// 2^20: a token's slot stands above its pending count.
-pub const SLOT_UNIT: u64 = 1048576;
+// A token's slot stands above its pending count.
+pub const SLOT_UNIT: u64 = 1 << 20;
 
-// 2^26: a token's phase stands above its slot.
-pub const PHASE_UNIT: u64 = 67108864;
+// A token's phase stands above its slot.
+pub const PHASE_UNIT: u64 = 1 << 26;
 
-// 2^58: every token is below it.
-pub const TOKEN_END: u64 = 288230376151711744;
+// Every token is below it.
+pub const TOKEN_END: u64 = 1 << 58;
 
 // An object's row; seen says whether the previous phase was seen.
-#[derive(Clone, Copy)]
+#[derive(Clone, Copy, Debug, PartialEq, Eq)]
 pub struct Object {
     pub live: bool,
     pub expected: u32,
@@ -36,7 +38,7 @@ pub struct Object {
 }
 
 // A step on a row. Arrive is every arrival and drop: its expectation is 0 where none is attached.
-#[derive(Clone, Copy)]
+#[derive(Clone, Copy, Debug, PartialEq, Eq)]
 pub enum Act {
     Init(u32),
     Inval,
@@ -52,18 +54,25 @@ pub enum Act {
     Parity(u8),
 }
 
-// What a step answers: the lowest refusal number, or the row after it, the value and whether the phase completed.
-#[derive(Clone, Copy)]
-pub enum Answer {
-    Refused(u8),
-    Accepted { row: Object, value: u64, done: bool },
+// What an accepted step leaves and answers: the row after it, the value and whether the phase completed.
+#[derive(Clone, Copy, Debug, PartialEq, Eq)]
+pub struct Answer {
+    pub row: Object,
+    pub value: u64,
+    pub done: bool,
 }
 
-// What pending count answers: a refusal number, or the count.
-#[derive(Clone, Copy)]
-pub enum Count {
-    NoToken(u8),
-    Pending(u64),
+impl Answer {
+    // That of a step that completes no phase.
+    pub fn not_done(row: Object, value: u64) -> Answer
+        ensures { result ≡ not_done row value }
+    {
+        Answer {
+            row,
+            value,
+            done: false,
+        }
+    }
 }
 
 // The row of an object that is not live: all zero.
@@ -84,7 +93,8 @@ pub fn dead() -> Object
 pub fn outside(z: i64) -> bool
     ensures { result ≡ outside z }
 {
-    (z < -(MOST as i64)) | ((MOST as i64) < z)
+    let most = i64::from(MOST);
+    (z < -most) | (most < z)
 }
 
 // Whether a live row is sound; every u32 is a phase.
@@ -93,53 +103,47 @@ fn live_sound(o: Object) -> bool
 {
     ((1 <= o.expected) & (o.expected <= MOST))
         & (o.pending <= o.expected)
-        & !outside(o.tx as i64)
+        & !outside(i64::from(o.tx))
         & ((o.phase != 0) | o.seen)
 }
 
-// Whether a dead row is sound: it is zero.
-fn dead_sound(o: Object) -> bool
-    ensures { result ≡ dead_sound o }
-{
-    (o.expected == 0) & (o.pending == 0) & (o.tx == 0) & (o.phase == 0) & !o.seen
-}
-
-// Whether a row is sound.
+// Whether a row is sound: a dead one is zero.
 pub fn sound(o: Object) -> bool
     ensures { result ≡ sound_row o }
 {
     if o.live {
         return live_sound(o);
     }
-    dead_sound(o)
+    o == dead()
 }
 
 // The token of a row's state: phase, slot (address divided by 8) and pending count in one number.
 pub fn token(o: Object, slot: u8) -> u64
     ensures { result ≡ token o slot }
 {
-    o.phase as u64 * PHASE_UNIT + slot as u64 * SLOT_UNIT + o.pending as u64
+    u64::from(o.phase) * PHASE_UNIT + u64::from(slot) * SLOT_UNIT + u64::from(o.pending)
 }
 
 // The pending count in a token, or 19.
-pub fn pending_count(token: u64) -> Count
+pub fn pending_count(token: u64) -> Result<u64, Refusal>
     ensures { result ≡ pending_count token }
 {
     if TOKEN_END <= token {
-        return Count::NoToken(19);
+        return Err(Refusal::BadToken);
     }
-    Count::Pending(token % SLOT_UNIT)
+    Ok(token % SLOT_UNIT)
 }
 
 // Init; the slot is nothing to it, nor to any step but arrivals and the test by token.
-pub fn init(o: Object, count: u32) -> Answer
+#[tactic(auto, unfolding(crate::specs::Row::step_row, folds::specs::Folds::lowest))]
+pub fn init(o: Object, count: u32) -> Result<Answer, Refusal>
     ensures { result ≡ step_row o 0 (Act.Init count) }
 {
     if o.live {
-        return Answer::Refused(13);
+        return Err(Refusal::AlreadyLive);
     }
     if (count == 0) | (MOST < count) {
-        return Answer::Refused(14);
+        return Err(Refusal::BadCount);
     }
     let row = Object {
         live: true,
@@ -149,23 +153,16 @@ pub fn init(o: Object, count: u32) -> Answer
         phase: 0,
         seen: true,
     };
-    Answer::Accepted {
-        row,
-        value: 0,
-        done: false,
-    }
+    Ok(Answer::not_done(row, 0))
 }
 
 // Inval: the row is dead and zero.
-pub fn inval(o: Object) -> Answer
+#[tactic(auto, unfolding(crate::specs::Row::step_row, folds::specs::Folds::lowest))]
+pub fn inval(o: Object) -> Result<Answer, Refusal>
     ensures { result ≡ step_row o 0 Act.Inval }
 {
     if !o.live {
-        return Answer::Refused(12);
+        return Err(Refusal::NotLive);
     }
-    Answer::Accepted {
-        row: dead(),
-        value: 0,
-        done: false,
-    }
+    Ok(Answer::not_done(dead(), 0))
 }

@@ -11,20 +11,14 @@ use object::{Object, SLOTS};
 pub fn row_at(objects: &[Object], i: usize) -> Object
     ensures { result ≡ get_or objects.now i dead }
 {
-    if objects.len() <= i {
-        return object::dead();
-    }
-    objects[i]
+    objects.get(i).copied().unwrap_or(object::dead())
 }
 
 // Stores a row at i, and past the end nothing.
 pub fn put_row(objects: &mut [Object], i: usize, row: Object)
     ensures { objects.new ≡ set objects.old i row }
 {
-    if objects.len() <= i {
-        return;
-    }
-    objects[i] = row;
+    lent_rows::put_row(objects, i, row);
 }
 
 // Whether the list has 64 records and each is sound; the first that is not ends the check.
@@ -34,25 +28,12 @@ pub fn rows_sound(objects: &[Object]) -> bool
     if objects.len() != SLOTS {
         return false;
     }
-    let mut i: usize = 0;
-    while i < SLOTS {
-        if !object::sound(objects[i]) {
-            return false;
-        }
-        i += 1;
-    }
-    true
+    objects.iter().all(|row| object::sound(*row))
 }
 
 // Makes every row dead.
 pub fn fresh_rows(objects: &mut [Object])
     ensures { objects.new ≡ replicate (length objects.old) dead }
 {
-    let n = objects.len();
-    let row = object::dead();
-    let mut i: usize = 0;
-    while i < n {
-        objects[i] = row;
-        i += 1;
-    }
+    objects.fill(object::dead());
 }

@@ -1,1 +1,1 @@
-pub mod Tx
+pub mod Settling

@@ -1,154 +1,113 @@
 // What changes a phase: arrivals, drops, expects and completes on one object's row.
 #![tactic(auto)]
 
-ghost use Rattle.std.specs.Prelude.{◌≡◌, true, false, cond, eqb, pos, ◌+ℤ◌, ◌-ℤ◌};
-ghost use Rattle.object.specs.Row.{last_phase, outside, with_tx, expects, completes, arrives, both_zero, next_phase, bad_arrival, step_row};
+ghost use Rattle.std.specs.Prelude.{◌≡◌, ◌<◌, ◌^◌, true, cond, eqb, ◌+ℤ◌, Ok, Err};
+ghost use Rattle.std.specs.Int.Signed.{mag};
+ghost use Rattle.object.specs.Row.{last_phase, outside, with_tx, arrives, both_zero, next_phase, not_done, bad_arrival, step_row};
 
 use object::{Act, Answer, LAST_PHASE, Object};
+use refusals::Refusal;
 
-// A row whose transaction count was to change, or that the count would leave its range.
-#[derive(Clone, Copy)]
-enum Moved {
-    Out,
-    To(Object),
-}
-
-// The row with another transaction count, or that the count is out of its range.
-fn ranged(o: Object, tx: i64) -> Moved
-    ensures { result ≡ cond (outside tx) Moved.Out (Moved.To (with_tx o tx)) }
+// The row with transactions added, or taken off where they are below 0; or that the count would leave its range.
+fn moved(o: Object, by: i64) -> Result<Object, Refusal>
+    requires { mag by < 2 ^ 32 }
+    ensures { result ≡ cond (outside (o.tx +ℤ by)) (Err Refusal.OutOfRange) (Ok (with_tx o (o.tx +ℤ by))) }
 {
+    let tx = i64::from(o.tx) + by;
     if object::outside(tx) {
-        return Moved::Out;
+        return Err(Refusal::OutOfRange);
     }
-    let mut row = o;
-    row.tx = tx as i32;
-    Moved::To(row)
+    Ok(Object { tx: tx as i32, ..o })
 }
 
-// The row with transactions added.
-fn raised(o: Object, x: u32) -> Moved
-    ensures { result ≡ cond (outside (o.tx +ℤ pos x)) Moved.Out (Moved.To (expects o x)) }
+// The row with the count off pending, and off expected where it drops; or that the count is bad.
+fn arrived(o: Object, count: u32, drop: bool) -> Result<Object, Refusal>
+    ensures { result ≡ cond (bad_arrival o count drop) (Err Refusal.BadCount) (Ok (arrives o count drop)) }
 {
-    ranged(o, o.tx as i64 + x as i64)
-}
-
-// The row with transactions taken off.
-fn lowered(o: Object, x: u32) -> Moved
-    ensures { result ≡ cond (outside (o.tx -ℤ pos x)) Moved.Out (Moved.To (completes o x)) }
-{
-    ranged(o, o.tx as i64 - x as i64)
-}
-
-// Whether an arrival's or a drop's count is refused.
-fn bad_arrival(o: Object, count: u32, drop: bool) -> bool
-    ensures { result ≡ bad_arrival o count drop }
-{
-    (count == 0) | (o.pending < count) | (drop & (o.expected <= count))
-}
-
-// The row with the count off pending, and off expected where it drops.
-fn arrives(o: Object, count: u32, drop: bool) -> Object
-    requires { bad_arrival o count drop ≡ false }
-    ensures { result ≡ arrives o count drop }
-{
-    let mut row = o;
-    row.pending = o.pending - count;
-    if drop {
-        row.expected = o.expected - count;
-        return row;
+    if (count == 0) | (o.pending < count) | (drop & (o.expected <= count)) {
+        return Err(Refusal::BadCount);
     }
-    row
-}
-
-// Whether pending and transactions are both 0.
-fn both_zero(o: Object) -> bool
-    ensures { result ≡ both_zero o }
-{
-    (o.pending == 0) & (o.tx == 0)
+    let dropped = if drop { count } else { 0 };
+    Ok(Object {
+        expected: o.expected - dropped,
+        pending: o.pending - count,
+        ..o
+    })
 }
 
 // After an arrival or a complete: the phase completes if pending and transactions are both 0; a noComplete step can't, nor can the last phase.
-fn settle(o: Object, quiet: bool, value: u64) -> Answer
+fn settle(o: Object, quiet: bool, value: u64) -> Result<Answer, Refusal>
     ensures { result ≡
         cond (both_zero o)
-        (cond quiet (Answer.Refused 17) (cond (eqb o.phase last_phase) (Answer.Refused 18) (Answer.Accepted (next_phase o) value true)))
-        (Answer.Accepted o value false) }
+        (cond quiet (Err Refusal.EndsQuietly) (cond (eqb o.phase last_phase) (Err Refusal.EndsLast) (Ok (record { row = next_phase o; value = value; done = true }))))
+        (Ok (not_done o value)) }
 {
-    if !both_zero(o) {
-        return Answer::Accepted {
-            row: o,
-            value,
-            done: false,
-        };
+    if (o.pending != 0) | (o.tx != 0) {
+        return Ok(Answer::not_done(o, value));
     }
     if quiet {
-        return Answer::Refused(17);
+        return Err(Refusal::EndsQuietly);
     }
     let phase = o.phase;
     if phase == LAST_PHASE {
-        return Answer::Refused(18);
+        return Err(Refusal::EndsLast);
     }
-    let next = Object {
-        live: o.live,
-        expected: o.expected,
+    let row = Object {
         pending: o.expected,
-        tx: o.tx,
         phase: phase + 1,
         seen: false,
+        ..o
     };
-    Answer::Accepted {
-        row: next,
+    Ok(Answer {
+        row,
         value,
         done: true,
-    }
+    })
 }
 
 // Every arrival and drop: the count, whether it drops, the attached expectation (0 where there is none), whether it is a noComplete.
-pub fn arrive(o: Object, slot: u8, count: u32, drop: bool, expects: u32, quiet: bool) -> Answer
+#[tactic(auto, unfolding(object::specs::Row::step_row, folds::specs::Folds::lowest))]
+pub fn arrive(
+    o: Object,
+    slot: u8,
+    count: u32,
+    drop: bool,
+    expects: u32,
+    quiet: bool,
+) -> Result<Answer, Refusal>
     ensures { result ≡ step_row o slot (Act.Arrive count drop expects quiet) }
 {
     if !o.live {
-        return Answer::Refused(12);
+        return Err(Refusal::NotLive);
     }
-    if bad_arrival(o, count, drop) {
-        return Answer::Refused(14);
-    }
-    let Moved::To(row) = raised(o, expects) else {
-        return Answer::Refused(15);
-    };
+    let left = arrived(o, count, drop)?;
+    let row = moved(left, i64::from(expects))?;
     if !o.seen {
-        return Answer::Refused(16);
+        return Err(Refusal::Unseen);
     }
-    let next = arrives(row, count, drop);
-    settle(next, quiet, object::token(o, slot))
+    settle(row, quiet, object::token(o, slot))
 }
 
 // A lone expect.
-pub fn expect(o: Object, x: u32) -> Answer
+#[tactic(auto, unfolding(object::specs::Row::step_row, folds::specs::Folds::lowest))]
+pub fn expect(o: Object, x: u32) -> Result<Answer, Refusal>
     ensures { result ≡ step_row o 0 (Act.Expect x) }
 {
     if !o.live {
-        return Answer::Refused(12);
+        return Err(Refusal::NotLive);
     }
-    let Moved::To(row) = raised(o, x) else {
-        return Answer::Refused(15);
-    };
-    Answer::Accepted {
-        row,
-        value: 0,
-        done: false,
-    }
+    let row = moved(o, i64::from(x))?;
+    Ok(Answer::not_done(row, 0))
 }
 
 // A complete.
-pub fn complete(o: Object, x: u32) -> Answer
+#[tactic(auto, unfolding(object::specs::Row::step_row, folds::specs::Folds::lowest))]
+pub fn complete(o: Object, x: u32) -> Result<Answer, Refusal>
     ensures { result ≡ step_row o 0 (Act.Complete x) }
 {
     if !o.live {
-        return Answer::Refused(12);
+        return Err(Refusal::NotLive);
     }
-    let Moved::To(row) = lowered(o, x) else {
-        return Answer::Refused(15);
-    };
+    let row = moved(o, -i64::from(x))?;
     settle(row, false, 0)
 }

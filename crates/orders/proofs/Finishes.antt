@@ -13,7 +13,7 @@ use Rattle.object.specs.declared.Object.{Object}
 use Rattle.object.specs.declared.Act.{Act}
 use Rattle.object.specs.Row.{last_phase, next_phase, acted, ends, both_zero, lines}
 use Rattle.block.specs.declared.Block.{Block}
-use Rattle.block.specs.declared.Verdict.TheVariants.{Accepted}
+use Rattle.block.specs.Verdicts.{accepted}
 use Rattle.tables.specs.Tables.{Tables, sound_tables, counted, tallied}
 use Rattle.tables.specs.Refusals.{act_of}
 use Rattle.tables.specs.Effect.{verdict, after, State, next, run}
@@ -111,11 +111,11 @@ module _ (a : ℕ) (good : Address a) where
             let q = (brings_some t.block a u h.0).1 in
             goes_on (acted o y) m (no_arrivals t.block a (u ∷ l) h) (omega arith)
 
-    pub moves : verdict t s ≡ Accepted (answer_of o s.op) (none l) 0
+    pub moves : verdict t s ≡ accepted (answer_of o s.op) (none l) 0
     moves =
         ap (verdict t) here
         ∙ says t g.sound a good s.warp from step clear
-        ∙ (λ i. Accepted (answer_of o (sym here i).op) (ends_last i) 0)
+        ∙ (λ i. accepted (answer_of o (sym here i).op) (ends_last i) 0)
 
     lands : after t s ≡ with_row t a (landed o y l)
     lands =
@@ -190,8 +190,8 @@ module _ (a : ℕ) (good : Address a) where
   -- ---- tests
 
   module _ (t : Tables) (sound : sound_tables t ≡ true) (w : ℕ) (h : ready t.block w ≡ true) (o : ObjectStep) where
-    test_says : (b : Bool) → Says (object_at t a) (a / 8) (act_of o) b → verdict t (step_on w a o) ≡ Accepted (digit b) false 0
-    test_says b k = says t sound a good w h o k.clear ∙ (λ i. Accepted (k.value i) (k.done i) 0)
+    test_says : (b : Bool) → Says (object_at t a) (a / 8) (act_of o) b → verdict t (step_on w a o) ≡ accepted (digit b) false 0
+    test_says b k = says t sound a good w h o k.clear ∙ (λ i. accepted (k.value i) (k.done i) 0)
 
     test_leaves : Says (object_at t a) (a / 8) (act_of o) false → after t (step_on w a o) ≡ t
     test_leaves k = leaves t sound a good w h o k.clear ∙ ap (with_row t a) k.row ∙ with_same t a
@@ -199,7 +199,7 @@ module _ (a : ℕ) (good : Address a) where
   -- where a step is left, a test of the phase says no and leaves the tables
   pub tests_no : (t : Tables) (s : Step) (l : List Step) → Going t a (s ∷ l) → (w : ℕ) → ready t.block w ≡ true
       → (ph : ℕ) → (object_at t a).phase ≡ ph → (o : ObjectStep) → TestOf a ph o
-      → (verdict t (step_on w a o) ≡ Accepted 0 false 0) × (after t (step_on w a o) ≡ t)
+      → (verdict t (step_on w a o) ≡ accepted 0 false 0) × (after t (step_on w a o) ≡ t)
   tests_no t s l g w h ph e o q =
       let k = says_no a ph (slot_below a good) (subst (λ (n : ℕ). n < last_phase) e g.left.phase) (object_at t a) g.left.live q e in
       (test_says t g.sound w h o false k, test_leaves t g.sound w h o k)
@@ -214,7 +214,7 @@ module _ (a : ℕ) (good : Address a) where
     last_sound = with_sound x.tables g.sound a good _ (finished_sound first g.left)
 
     tests_yes : (w : ℕ) → ready x.tables.block w ≡ true → (o : ObjectStep) → TestOf a first.phase o
-        → verdict (ended x a (s₀ ∷ l₀)).tables (step_on w a o) ≡ Accepted 1 false 0
+        → verdict (ended x a (s₀ ∷ l₀)).tables (step_on w a o) ≡ accepted 1 false 0
     tests_yes w h o q =
         let e = at_row x.tables g.sound a good (finished first (drops (s₀ ∷ l₀))) in
         test_says (ended x a (s₀ ∷ l₀)).tables last_sound w h o true

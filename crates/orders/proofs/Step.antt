@@ -18,7 +18,7 @@ use Rattle.object.specs.Tokens.{slots}
 use Rattle.object.specs.Row as row
 use Rattle.object.specs.Soundness.{sound_row}
 use Rattle.block.specs.declared.Block.{Block}
-use Rattle.block.specs.declared.Verdict.TheVariants.{Accepted}
+use Rattle.block.specs.Verdicts as said
 use Rattle.block.specs.Tables.{warp_at, is_ready, sound_block}
 use Rattle.tables.specs.Tables.{Tables, sound_objects, sound_tables, view_of}
 use Rattle.tables.specs.Refusals.{lines, refusal, act_of}
@@ -109,7 +109,7 @@ module _ (t : Tables) (sound : sound_tables t ≡ true) (a : ℕ) (good : Addres
     unfolding taken
     takes_effect = rw accepted
 
-    pub says : verdict t (step_on w a o) ≡ Accepted (row.value_of (object_at t a) (a / 8) (act_of o)) (row.ends (object_at t a) (act_of o)) 0
+    pub says : verdict t (step_on w a o) ≡ said.accepted (row.value_of (object_at t a) (a / 8) (act_of o)) (row.ends (object_at t a) (act_of o)) 0
     says = ap (λ r. r.verdict) takes_effect
 
     pub leaves : after t (step_on w a o) ≡ with_row t a (row.row_after (object_at t a) (act_of o))

@@ -10,7 +10,7 @@ use Rattle.steps.specs.declared.Step.{Step}
 use Rattle.object.specs.declared.Object.{Object}
 use Rattle.object.specs.Tokens.{slot_unit, phase_unit}
 use Rattle.object.specs.Row.{value_of}
-use Rattle.block.specs.declared.Verdict.TheVariants.{Accepted}
+use Rattle.block.specs.Verdicts.{accepted}
 use Rattle.tables.specs.Tables.{Tables, counted}
 use Rattle.tables.specs.Refusals.{act_of}
 use Rattle.tables.specs.Effect.{verdict, after, State, run}
@@ -62,13 +62,13 @@ pub data TestOf (a ph : ℕ) : ObjectStep → Type 0 where
 pub record Finishes (x : State) (a : ℕ) (l : List Step) : Type 0 where
   -- "every step is accepted, the phase completes once, at the last step": done where no step is left, and released none
   pub steps : (pre : List Step) (s : Step) (post : List Step) → l ≡ pre ++ (s ∷ post)
-      → verdict (run x pre).tables s ≡ Accepted (answer_of (object_at (run x pre).tables a) s.op) (none post) 0
+      → verdict (run x pre).tables s ≡ accepted (answer_of (object_at (run x pre).tables a) s.op) (none post) 0
   -- "the end tables are equal, with pending at expected less drops"
   pub end : run x l ≡ ended x a l
   -- "A test of that phase by a ready warp says no anywhere before the last step", and changes no table
   pub no : (pre : List Step) (s : Step) (post : List Step) → l ≡ pre ++ (s ∷ post)
       → (w : ℕ) → ready x.tables.block w ≡ true → (o : ObjectStep) → TestOf a (object_at x.tables a).phase o
-      → (verdict (run x pre).tables (step_on w a o) ≡ Accepted 0 false 0) × (after (run x pre).tables (step_on w a o) ≡ (run x pre).tables)
+      → (verdict (run x pre).tables (step_on w a o) ≡ accepted 0 false 0) × (after (run x pre).tables (step_on w a o) ≡ (run x pre).tables)
   -- "and yes straight after it"
   pub yes : (w : ℕ) → ready x.tables.block w ≡ true → (o : ObjectStep) → TestOf a (object_at x.tables a).phase o
-      → verdict (run x l).tables (step_on w a o) ≡ Accepted 1 false 0
+      → verdict (run x l).tables (step_on w a o) ≡ accepted 1 false 0

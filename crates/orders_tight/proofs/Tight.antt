@@ -16,8 +16,10 @@ use Rattle.steps.specs.declared.Step.{Step}
 use Rattle.object.specs.declared.Object.{Object}
 use Rattle.object.specs.Tokens.{slots}
 use Rattle.object.specs.Soundness.{dead_sound, sound_row}
-use Rattle.block.specs.declared.Verdict.{Verdict}
-use Rattle.block.specs.declared.Verdict.TheVariants.{Refused, Accepted}
+use Rattle.std.specs.Prelude.{Ok, Err}
+use Rattle.block.specs.Verdicts.{Verdict}
+use Rattle.std.specs.Prelude.{Ok, Err}
+use Rattle.block.specs.Verdicts.{accepted}
 use Rattle.block.specs.Tables.{sound_block}
 use Rattle.tables.specs.declared.Tally.{Tally}
 use Rattle.tables.specs.Tables.{Tables, fresh_tally, tallied}
@@ -90,13 +92,13 @@ all_met t a l = (
 -- every step is accepted, and the phase completes once, at the last
 abbrev once : List Verdict → Bool
 once [] = false
-once (Refused n ∷ vs) = false
-once (Accepted v d r ∷ []) = d
-once (Accepted v d r ∷ (u ∷ vs)) = not d && once (u ∷ vs)
+once (Err r ∷ vs) = false
+once (Ok a ∷ []) = a.done
+once (Ok a ∷ (u ∷ vs)) = not a.done && once (u ∷ vs)
 
 completes_once : (x : State) (a : ℕ) (s : Step) (l : List Step)
     → ((pre : List Step) (u : Step) (post : List Step) → s ∷ l ≡ pre ++ (u ∷ post)
-    → verdict (run x pre).tables u ≡ Accepted (answer_of (object_at (run x pre).tables a) u.op) (none post) 0)
+    → verdict (run x pre).tables u ≡ accepted (answer_of (object_at (run x pre).tables a) u.op) (none post) 0)
     → once (verdicts x (s ∷ l)) ≡ true
 completes_once x a s [] f = subst⁻¹ (λ (v : Verdict). once (v ∷ []) ≡ true) (f [] s [] refl) refl
 completes_once x a s (u ∷ l) f =

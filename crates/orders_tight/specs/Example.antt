@@ -4,7 +4,7 @@ use Rattle.std.specs.Prelude.{◌≡◌, true, false, pos, take}
 use mathlib.Core.List.{List, [], ◌∷◌, Perm}
 use Rattle.steps.specs.declared.ObjectStep.TheVariants.{Init, Arrive, ArriveExpect, Drop, DropExpect, Complete, TestToken, TestParity}
 use Rattle.steps.specs.declared.Step.{Step}
-use Rattle.block.specs.declared.Verdict.TheVariants.{Accepted}
+use Rattle.block.specs.Verdicts.{accepted}
 use Rattle.tables.specs.Tables.{fresh_tables, fresh_tally}
 use Rattle.tables.specs.Effect.{verdict, State, run, verdicts}
 use Rattle.orders.specs.Due.{Due}
@@ -50,27 +50,27 @@ pub record Example : Type 0 where
   pub due : Due started.tables 16 one
   pub reordered : Perm one other
   pub answers : verdicts started one
-      ≡ (Accepted 0 false 0
-      ∷ Accepted 2097157 false 0
-      ∷ Accepted 2097156 false 0
-      ∷ Accepted 0 false 0
-      ∷ Accepted 2097155 false 0
-      ∷ Accepted 2097154 false 0
-      ∷ Accepted 2097153 true 0
+      ≡ (accepted 0 false 0
+      ∷ accepted 2097157 false 0
+      ∷ accepted 2097156 false 0
+      ∷ accepted 0 false 0
+      ∷ accepted 2097155 false 0
+      ∷ accepted 2097154 false 0
+      ∷ accepted 2097153 true 0
       ∷ [])
   pub other_answers : verdicts started other
-      ≡ (Accepted 2097157 false 0
-      ∷ Accepted 2097156 false 0
-      ∷ Accepted 2097155 false 0
-      ∷ Accepted 0 false 0
-      ∷ Accepted 2097154 false 0
-      ∷ Accepted 2097153 false 0
-      ∷ Accepted 0 true 0
+      ≡ (accepted 2097157 false 0
+      ∷ accepted 2097156 false 0
+      ∷ accepted 2097155 false 0
+      ∷ accepted 0 false 0
+      ∷ accepted 2097154 false 0
+      ∷ accepted 2097153 false 0
+      ∷ accepted 0 true 0
       ∷ [])
   pub end : run started one ≡ ending
   pub other_end : run started other ≡ ending
   -- the first arrival's token, and the parity, tested before the last step and straight after it
-  pub token_no : verdict (run started (take 6 one)).tables (step_on 2 16 (TestToken 2097157)) ≡ Accepted 0 false 0
-  pub token_yes : verdict ending.tables (step_on 2 16 (TestToken 2097157)) ≡ Accepted 1 false 0
-  pub parity_no : verdict (run started (take 6 other)).tables (step_on 0 16 (TestParity 0)) ≡ Accepted 0 false 0
-  pub parity_yes : verdict ending.tables (step_on 0 16 (TestParity 0)) ≡ Accepted 1 false 0
+  pub token_no : verdict (run started (take 6 one)).tables (step_on 2 16 (TestToken 2097157)) ≡ accepted 0 false 0
+  pub token_yes : verdict ending.tables (step_on 2 16 (TestToken 2097157)) ≡ accepted 1 false 0
+  pub parity_no : verdict (run started (take 6 other)).tables (step_on 0 16 (TestParity 0)) ≡ accepted 0 false 0
+  pub parity_yes : verdict ending.tables (step_on 0 16 (TestParity 0)) ≡ accepted 1 false 0

@@ -5,7 +5,7 @@ use Rattle.steps.specs.declared.Step.{Step}
 use Rattle.object.specs.declared.Object.{Object}
 use Rattle.object.specs.Tokens.{slots}
 use Rattle.block.specs.declared.Block.{Block}
-use Rattle.block.specs.declared.Verdict.{Verdict}
+use Rattle.block.specs.Verdicts.{Verdict}
 use Rattle.block.specs.declared.Turn.{Turn}
 use Rattle.tables.specs.declared.Tally.{Tally}
 use Rattle.tables.specs.Tables.{fresh_tables, fresh_tally}

@@ -2,7 +2,7 @@
 #![tactic(auto)]
 
 ghost use Rattle.std.specs.Prelude.{◌≡◌};
-ghost use Rattle.owned.specs.Owner.{bundled, owned_step, owned_fresh};
+ghost use Rattle.owned.specs.Owner.{owned_step, owned_fresh};
 
 use block::{Block, Verdict};
 use object::{Object, SLOTS};
@@ -24,53 +24,27 @@ pub struct OwnedTurn {
     pub state: Owned,
 }
 
-// The owner of what a step left.
-fn bundle(verdict: Verdict, block: Block, objects: [Object; SLOTS], tally: Tally) -> OwnedTurn
-    ensures { result ≡ bundled verdict block objects tally }
-{
-    OwnedTurn {
-        verdict,
-        state: Owned {
-            block,
-            objects,
-            tally,
-        },
-    }
-}
-
-// One step on block, list and tally by value, which are lent to the step where they lie.
-fn step_parts(
-    mut block: Block,
-    mut objects: [Object; SLOTS],
-    mut tally: Tally,
-    s: Step,
-) -> OwnedTurn
-    ensures { result ≡ owned_step (record { block = block; objects = objects; tally = tally }) s }
-{
-    let verdict = lent_step::step(&mut block, &mut objects, &mut tally, s);
-    bundle(verdict, block, objects, tally)
-}
-
-// One step on what is owned.
-pub fn step_owned(o: Owned, s: Step) -> OwnedTurn
+// One step on what is owned, which is lent to the step where it lies.
+pub fn step_owned(mut o: Owned, s: Step) -> OwnedTurn
     ensures { result ≡ owned_step o s }
 {
-    let block = o.block;
-    let objects = o.objects;
-    let tally = o.tally;
-    step_parts(block, objects, tally, s)
+    let verdict = lent_step::step(&mut o.block, &mut o.objects, &mut o.tally, s);
+    OwnedTurn { verdict, state: o }
 }
 
 // Fresh tables for a number of warps, owned.
+#[tactic(auto, unfolding(lent::specs::Entries::fresh_refusal))]
 pub fn fresh_owned(warps: u8) -> OwnedTurn
     ensures { result ≡ owned_fresh warps }
 {
-    let n = lent_fresh::fresh_refusal(SLOTS, warps);
-    let row = object::dead();
-    let objects = [row; SLOTS];
-    let tally = lent_fresh::fresh_tally();
-    let t = lent_fresh::fresh_turn(n, warps);
-    let verdict = t.verdict;
-    let block = t.block;
-    bundle(verdict, block, objects, tally)
+    let judged = lent_fresh::fresh_refusal(SLOTS, warps);
+    let turn = lent_fresh::fresh_turn(judged, warps);
+    OwnedTurn {
+        verdict: turn.verdict,
+        state: Owned {
+            block: turn.block,
+            objects: [object::dead(); SLOTS],
+            tally: lent_fresh::fresh_tally(),
+        },
+    }
 }

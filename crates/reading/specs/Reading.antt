@@ -1,39 +1,52 @@
 -- What the functions that read traces promise.
 -- Assumes nothing.
-use Rattle.std.specs.Prelude.{◌≡◌, List, ◌++◌, true, ℕ, pos, length, take}
-use Rattle.std.specs.Int.Signed.{lt_z}
-use Rattle.io.specs.Counts.{IsPrefixLen}
+use Rattle.std.specs.Prelude.{◌≡◌, ◌⊎◌, List, [], ◌++◌, IsUtf8, Bool, true, false, ◌≤◌, ℕ, length, Result, Ok, Err}
+use Rattle.std.specs.IoError.{error_kind}
+use Rattle.std.specs.declared.io.Error.{Error}
 use Rattle.trace_text.specs.Text.{text_of}
 use Rattle.reading.specs.declared.Read.{Read}
 use Rattle.reading.specs.declared.Failure.{Failure}
-use Rattle.reading.specs.declared.Filled.{Filled}
-use Rattle.reading.specs.declared.Filled.TheVariants.{Bytes, Failed}
+use Rattle.reading.specs.declared.Cause.{Cause}
+use Rattle.reading.specs.declared.Cause.TheVariants.{Name, Call}
 
 -- the bytes that were read
-abbrev pub read_of : Read → List ℕ → List ℕ
-read_of read buf = take read.len buf
+abbrev pub read_of : Read → List ℕ
+read_of read = read.bytes.now
 
 -- what an input may have after the bytes that were read does not change their text
 abbrev pub Settled : List ℕ → Type 0
 Settled s = (more : List ℕ) → text_of (s ++ more) ≡ text_of s
 
--- how many bytes the path of a trace file has
-abbrev pub path_of : Filled → ℕ
-path_of (Bytes read) = read.path
-path_of (Failed failure) = failure.path
+-- a trace can't be read since a call failed
+abbrev pub called : Cause → Bool
+called (Name kind) = false
+called (Call reason) = true
 
--- reading a trace into a buffer: which one was asked for, and so many bytes at the buffer's start; where they fill it, the input may have more, and the text is settled all the same
-pub record Reads (number : ℕ) (read : Read) (buf : List ℕ) : Type 0 where
+-- the error that tells of it
+abbrev pub Tells : Cause → Error → Type 0
+Tells (Name kind) reason = error_kind reason ≡ kind
+Tells (Call reason) told = told ≡ reason
+
+-- a name that no file is opened by: none, one that fills so many bytes of room, or no text
+abbrev pub Unnamed : List ℕ → ℕ → Type 0
+Unnamed name room = (name ≡ []) ⊎ (length name ≡ room) ⊎ ¬ (IsUtf8 name)
+
+-- reading a trace into so much room: which one was asked for, and no more bytes than there is room; where they fill it, the input may have more, and the text is settled all the same
+pub record Reads (number room : ℕ) (read : Read) : Type 0 where
   pub asked : read.number ≡ number
-  pub counts : IsPrefixLen read.len buf
-  pub full : read.len ≡ length buf → Settled (read_of read buf)
+  pub counts : length (read_of read) ≤ room
+  pub full : length (read_of read) ≡ room → Settled (read_of read)
 
--- a trace that can't be read: which one was asked for, and an answer below zero, as of a call that failed
+-- a trace that can't be read: which one was asked for
 pub record Fails (number : ℕ) (failure : Failure) : Type 0 where
   pub asked : failure.number ≡ number
-  pub below : lt_z failure.answer (pos 0) ≡ true
 
--- the trace that an argument names, or standard input where the number is 0, is read or can't be read
-abbrev pub Fills : ℕ → Filled → List ℕ → Type 0
-Fills number (Bytes read) buf = Reads number read buf
-Fills number (Failed failure) buf = Fails number failure
+-- the path of what was read, or the name of what can't be read
+abbrev pub name_of : Result Read Failure → List ℕ
+name_of (Ok read) = read.path.now
+name_of (Err failure) = failure.name.now
+
+-- the trace that an argument names, or standard input where the number is 0, is read into so much room or can't be read
+abbrev pub Fills : ℕ → ℕ → Result Read Failure → Type 0
+Fills number room (Ok read) = Reads number room read
+Fills number room (Err failure) = Fails number failure

@@ -1,10 +1,9 @@
-// Reading traces. What was read is told by a `Read`, and that it can't be read by a `Failure`; each tells of which argument. Only the functions here make them, so that no other function can answer for more bytes than were read or for fewer, take one file for another, or call a trace unreadable that nobody tried to read.
+// Reading traces. What was read is told by a `Read`, and that it can't be read by a `Failure`; each tells of which argument. Only the functions here make them, so that no other function can answer for other bytes than were read, take one file for another, or call a trace unreadable that nobody tried to read.
 #![tactic(auto)]
 
-ghost use Rattle.std.specs.Prelude.{◌≡◌, ℕ, List, MatchResult, negsuc};
-ghost use Rattle.std.specs.Int.{IsNonNegative};
-ghost use Rattle.io.specs.Counts.{IsPrefixLen};
-ghost use Rattle.reading.specs.Reading.{Fills, path_of};
+ghost use Rattle.std.specs.Prelude.{◌≡◌, ◌≤◌, false, true, length, IfErr};
+ghost use Rattle.std.specs.Io.{ReadsAtMost};
+ghost use Rattle.reading.specs.Reading.{Fills, Tells, Unnamed, name_of, called};
 
 use std::env::FillError;
 use std::io::{Error, ErrorKind, Input};
@@ -14,165 +13,154 @@ use trace_look::MOST_BYTES;
 // One byte past the longest trace, so that a longer one is seen to be too long.
 pub const TRACE_ROOM: usize = MOST_BYTES + 1;
 
-// The largest number of bytes that an answer holds.
-const MOST_READ: usize = 9223372036854775807;
-
-// What was read: the number of the argument that names the file, 0 for standard input; so many bytes of its path at the start of one buffer; and so many bytes of the trace at the start of another.
+// What was read: the number of the argument that names the file, 0 for standard input; its path; and the bytes of the trace, lent from the buffer that they were read into.
 #[derive(Clone, Copy)]
-pub struct Read {
+pub struct Read<'a> {
     number: usize,
-    path: usize,
-    len: usize,
+    path: &'a [u8],
+    bytes: &'a [u8],
 }
 
-// What could not be read: the number and the path as above; what a call answers that fails, which is below zero; and why it failed.
+// Why a trace can't be read: the argument names no file, or a call failed.
 #[derive(Clone, Copy)]
-pub struct Failure {
+pub enum Cause {
+    Name(ErrorKind),
+    Call(Error),
+}
+
+// What could not be read: the number as above; the name that the argument gives, as much of it as its buffer holds; and why.
+#[derive(Clone, Copy)]
+pub struct Failure<'a> {
     number: usize,
-    path: usize,
-    answer: isize,
-    reason: Error,
+    name: &'a [u8],
+    cause: Cause,
 }
 
-// What reading a whole trace comes to.
-#[derive(Clone, Copy)]
-pub enum Filled {
-    Bytes(Read),
-    Failed(Failure),
-}
+impl<'a> Read<'a> {
+    // The bytes of the trace.
+    pub fn bytes(&self) -> &'a [u8]
+        ensures { result.now ≡ self.now.bytes.now }
+    {
+        self.bytes
+    }
 
-// How many bytes were read.
-pub fn size(read: Read) -> usize
-    ensures { result ≡ read.len }
-{
-    read.len
-}
-
-// How many bytes the path of what was read has.
-pub fn path(read: Read) -> usize
-    ensures { result ≡ read.path }
-{
-    read.path
-}
-
-// How many bytes the path of what could not be read has.
-pub fn failed_path(failure: Failure) -> usize
-    ensures { result ≡ failure.path }
-{
-    failure.path
-}
-
-// Why it could not be read.
-pub fn reason(failure: Failure) -> Error
-    ensures { result ≡ failure.reason }
-{
-    failure.reason
-}
-
-// What a call that fails comes to.
-fn failed(number: usize, path: usize, reason: Error) -> Filled
-    ensures path { path_of result ≡ path }
-    ensures fills { (buf : List ℕ) → Fills number result buf }
-{
-    Filled::Failed(Failure {
-        number: number,
-        path: path,
-        answer: -1,
-        reason: reason,
-    })
-}
-
-// What a call that reads answers, as C's calls do: how many bytes it read, or a number below zero where it failed; and why it failed.
-#[derive(Clone, Copy)]
-struct Answered {
-    number: isize,
-    reason: Error,
-}
-
-// The answer to such a call; a count that the number can't hold is its largest.
-fn answer_of(got: std::io::Result<usize>) -> Answered
-    ensures { MatchResult got (λ n. IsNonNegative result.number) (λ e. result.number ≡ negsuc 0) }
-{
-    match got {
-        Ok(read) => Answered {
-            number: if read < MOST_READ {
-                read as isize
-            } else {
-                MOST_READ as isize
-            },
-            reason: Error::from(ErrorKind::Other),
-        },
-        Err(reason) => Answered {
-            number: -1,
-            reason: reason,
-        },
+    // The path of the trace file.
+    pub fn path(&self) -> &'a [u8]
+        ensures { result.now ≡ self.now.path.now }
+    {
+        self.path
     }
 }
 
-// Reads until the buffer is full or the input ends. In a full buffer the trace is too long, whatever follows in the input.
-fn fill<R: std::io::Read>(
-    number: usize,
-    path: usize,
-    from: &mut R,
-    buf: &mut [u8; TRACE_ROOM],
-) -> Filled
-    ensures result_value { path_of result ≡ path }
-    ensures fills { Fills number result buf.new }
-{
-    let room: &mut [u8] = buf;
-    let mut at = 0;
-    while at < room.len() {
-        let got = answer_of(from.read(&mut room[at..]));
-        if got.number < 0 {
-            return Filled::Failed(Failure {
-                number: number,
-                path: path,
-                answer: got.number,
-                reason: got.reason,
-            });
+impl<'a> Failure<'a> {
+    // The name of what could not be read.
+    pub fn name(&self) -> &'a [u8]
+        ensures { result.now ≡ self.now.name.now }
+    {
+        self.name
+    }
+
+    // Why it could not be read.
+    pub fn reason(&self) -> Error
+        ensures { Tells self.now.cause result }
+    {
+        match self.cause {
+            Cause::Name(kind) => Error::from(kind),
+            Cause::Call(reason) => reason,
         }
-        let more = io::count(got.number, &room[at..]);
+    }
+}
+
+// Reads until the buffer is full or the input ends, and answers how many bytes it put at the buffer's start.
+fn read_whole<R: std::io::Read>(from: &mut R, buf: &mut [u8; TRACE_ROOM]) -> Result<usize, Cause>
+    ensures bound { ReadsAtMost result buf.new }
+    ensures cause { IfErr result (λ cause. called cause ≡ true) }
+{
+    let mut at = 0;
+    while at < buf.len() {
+        let more = from.read(&mut buf[at..]).map_err(Cause::Call)?;
         if more == 0 {
             break;
         }
         at += more;
     }
-    Filled::Bytes(Read {
-        number: number,
-        path: path,
-        len: at,
-    })
+    Ok(at)
+}
+
+// Reads the trace that a number and a path tell of. In a full buffer the trace is too long, whatever follows in the input.
+fn fill<'a, R: std::io::Read>(
+    number: usize,
+    path: &'a [u8],
+    from: &mut R,
+    buf: &'a mut [u8; TRACE_ROOM],
+) -> Result<Read<'a>, Failure<'a>>
+    ensures name { name_of result ≡ path.now }
+    ensures cause { IfErr result (λ failure. called failure.cause ≡ true) }
+    ensures fills { Fills number (length buf.old) result }
+{
+    match read_whole(from, &mut *buf) {
+        Ok(len) => Ok(Read {
+            number,
+            path,
+            bytes: &buf[..len],
+        }),
+        Err(cause) => Err(Failure {
+            number,
+            name: path,
+            cause,
+        }),
+    }
 }
 
 // Reads the trace on standard input.
-pub fn standard<R: Input>(rt: &R, buf: &mut [u8; TRACE_ROOM]) -> Filled
-    ensures { Fills 0 result buf.new }
+pub fn standard<'a, R: Input>(
+    rt: &R,
+    buf: &'a mut [u8; TRACE_ROOM],
+) -> Result<Read<'a>, Failure<'a>>
+    ensures cause { IfErr result (λ failure. called failure.cause ≡ true) }
+    ensures fills { Fills 0 (length buf.old) result }
 {
-    fill(0, 0, &mut rt.reader(), buf)
+    fill(0, b"", &mut rt.reader(), buf)
+}
+
+// What an argument that names no file comes to.
+fn unnamed(number: usize, name: &[u8], kind: ErrorKind) -> Failure<'_>
+    ensures asked { result.number ≡ number }
+    ensures name { result.name.now ≡ name.now }
+    ensures cause { result.cause ≡ Cause.Name kind }
+{
+    Failure {
+        number,
+        name,
+        cause: Cause::Name(kind),
+    }
 }
 
 // Reads the trace file that an argument names, and puts its path at the start of the other buffer. Of an argument that the buffer can't hold it puts the start there and opens no file; nor is one opened whose name is no text, since the library takes paths as text.
-pub fn argument<R: Env + Files>(
+pub fn argument<'a, R: Env + Files>(
     rt: &R,
     number: usize,
-    name: &mut [u8],
-    buf: &mut [u8; TRACE_ROOM],
-) -> Filled
-    ensures prefix_len { IsPrefixLen (path_of result) name.new }
-    ensures fills { Fills number result buf.new }
+    name: &'a mut [u8],
+    buf: &'a mut [u8; TRACE_ROOM],
+) -> Result<Read<'a>, Failure<'a>>
+    ensures prefix_len { length (name_of result) ≤ length name.old }
+    ensures cause { IfErr result (λ failure. called failure.cause ≡ false → Unnamed failure.name.now (length name.old)) }
+    ensures fills { Fills number (length buf.old) result }
 {
     let path = match rt.arg(number, &mut *name) {
-        Ok(path) => path,
-        Err(FillError::TooLong) => {
-            return failed(number, name.len(), Error::from(ErrorKind::InvalidFilename));
-        }
-        Err(FillError::NotPresent) => return failed(number, 0, Error::from(ErrorKind::NotFound)),
+        Ok(len) => &name[..len],
+        Err(FillError::TooLong) => return Err(unnamed(number, name, ErrorKind::InvalidFilename)),
+        Err(FillError::NotPresent) => return Err(unnamed(number, b"", ErrorKind::NotFound)),
     };
-    let Ok(text) = str::from_utf8(&name[..path]) else {
-        return failed(number, path, Error::from(ErrorKind::InvalidFilename));
+    let Ok(text) = str::from_utf8(path) else {
+        return Err(unnamed(number, path, ErrorKind::InvalidFilename));
     };
     match std::fs::open(rt, text) {
         Ok(mut file) => fill(number, path, &mut file, buf),
-        Err(reason) => failed(number, path, reason),
+        Err(reason) => Err(Failure {
+            number,
+            name: path,
+            cause: Cause::Call(reason),
+        }),
     }
 }

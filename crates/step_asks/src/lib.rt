@@ -4,7 +4,7 @@
 ghost use Rattle.std.specs.Prelude.{◌≡◌, false};
 ghost use Rattle.tables.specs.Refusals.{call_of, act_of};
 
-use block::{Call, Threads};
+use block::Call;
 use object::Act;
 use steps::{BarrierStep, ObjectStep};
 
@@ -13,19 +13,15 @@ pub fn call_of(b: BarrierStep) -> Call
     ensures { result ≡ call_of b }
 {
     match b {
-        BarrierStep::SyncAll => barrier_calls::sync_call(Threads::All),
-        BarrierStep::Sync(t) => barrier_calls::sync_call(Threads::Given(t)),
+        BarrierStep::SyncAll => barrier_calls::sync_call(None),
+        BarrierStep::Sync(t) => barrier_calls::sync_call(Some(t)),
         BarrierStep::Arrive(t) => barrier_calls::arrive_call(t),
-        BarrierStep::RedAll { selector, mask } => barrier_calls::red_call(
-            selector,
-            Threads::All,
-            mask,
-        ),
+        BarrierStep::RedAll { selector, mask } => barrier_calls::red_call(selector, None, mask),
         BarrierStep::Red {
             selector,
             threads,
             mask,
-        } => barrier_calls::red_call(selector, Threads::Given(threads), mask),
+        } => barrier_calls::red_call(selector, Some(threads), mask),
     }
 }
 

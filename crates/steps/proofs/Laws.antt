@@ -7,13 +7,13 @@ use native.Mathlib.Omega.{arith}
 use native.Mathlib.Numerals.{add-one}
 use lib.ListN.{length, get_or, take, drop, take-append-drop, length-append, length-drop, get_or-append}
 use lib.Seq.{sets-eq, length-sets, length-take-le, get_or_at, drop_at, drop-append-le, drop-drop, drop-cons}
+use Rattle.std.specs.Prelude.{Ok}
 use Rattle.fields.specs.Num.{Bytes}
 use Rattle.fields.proofs.Num.{bytes_drop}
 use Rattle.fields.specs.Row.{decode, encode, Fit}
 use Rattle.fields.proofs.Row.{fit_decode, decode_encode, encode_decode, decode_more}
 use Rattle.steps.specs.declared.Step.{Step}
 use Rattle.steps.specs.declared.Cursor.{Cursor}
-use Rattle.steps.specs.declared.Read.TheVariants.{Found}
 use Rattle.steps.specs.Step.{kind_at, read_at, length_of, step_of, row, kind_of, values_of, bytes_of, written}
 use Rattle.steps.specs.Laws.{WrittenRead, WasRead, ReadWritten}
 use Rattle.steps.proofs.Each.{known, kept}
@@ -22,12 +22,12 @@ use Rattle.steps.proofs.Writing.{own, size, has_room}
 
 -- a known kind with its whole body, standing in some bytes
 stands : (l : List ℕ) (at k : ℕ) (b : List ℕ) → 0 < length_of k → at + 1 + length_of k ≤ length l → get_or l at 0 ≡ k → drop (at + 1) l ≡ b
-    → read_at l at ≡ Found (step_of k (decode (row k) b)) (record { at = at + 1 + length_of k })
+    → read_at l at ≡ Ok (step_of k (decode (row k) b), record { at = at + 1 + length_of k })
 stands l at k b is fits ek eb =
     let is' : 0 < length_of (get_or l at 0) = rw ek is in
     let fits' : at + 1 + length_of (get_or l at 0) ≤ length l = rw ek fits in
     sym (read_found l at (omega arith) is' fits')
-    ∙ (λ i. Found (step_of (ek i) (decode (row (ek i)) (eb i))) (record { at = at + 1 + length_of (ek i) }))
+    ∙ (λ i. Ok (step_of (ek i) (decode (row (ek i)) (eb i)), record { at = at + 1 + length_of (ek i) }))
 
 -- a step written and read is the same step
 pub written_read : WrittenRead
@@ -48,7 +48,7 @@ written_read s out at fit space =
     let place : at + 1 + length_of k ≡ at + length (bytes_of s) = omega arith in
     let fields = decode_encode (row k) (values_of s) rest fit in
     stands l at k b (own s.op).some (omega arith) ek eb
-    ∙ (λ i. Found ((ap (step_of k) fields ∙ (own s.op).back s.warp) i) (record { at = place i }))
+    ∙ (λ i. Ok ((ap (step_of k) fields ∙ (own s.op).back s.warp) i, record { at = place i }))
 
 -- a step read and written is the same bytes, and the rest that holds of a step that was read
 module _ (s : List ℕ) (at : ℕ) (h : Bytes s) (more : at < length s) (is : 0 < length_of (kind_at s at)) (fits : at + 1 + length_of (kind_at s at) ≤ length s) where
@@ -92,7 +92,7 @@ module _ (s : List ℕ) (at : ℕ) (h : Bytes s) (more : at < length s) (is : 0 
             let longer = length-append s t in
             let same : decode (row k) (body ++ t) ≡ decode (row k) body = decode_more (row k) body t (omega arith) in
             stands (s ++ t) at k (body ++ t) is (omega arith) (get_or-append s t 0 at more) (drop-append-le (at + 1) s t (omega arith))
-            ∙ (λ i. Found (step_of k (same i)) (record { at = at + 1 + length_of k }));
+            ∙ (λ i. Ok (step_of k (same i), record { at = at + 1 + length_of k }));
       }
 
 pub read_written : ReadWritten

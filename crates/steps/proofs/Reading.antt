@@ -1,27 +1,22 @@
 -- Reading, case by case, and what a step that was found says of the bytes.
 -- Assumes nothing.
-use mathlib.Core.Path.{◌≡◌, refl}
-use mathlib.Core.Bool.{Bool, true, false, cond, ◌&&◌}
+use mathlib.Core.Path.{◌≡◌, refl, sym, ap}
+use mathlib.Core.Bool.{Bool, true, false, ◌&&◌}
 use mathlib.Core.List.{List}
 use Prim.Native.Nat.{ℕ, ◌+◌, ◌≤◌, ◌<◌}
 use native.Mathlib.Omega.{arith}
-use borrow.Author.Tests.{le-ltb, lt-ltb, ltb-false, eq-eqb, ne_eqb, eqb-true, eqb-false}
+use borrow.Author.Tests.{le-ltb, lt-ltb, ltb-false, eq-eqb, ne_eqb, eqb-false}
 use lib.Dec.{eqb, ltb}
 use lib.ListN.{length, drop}
+use Rattle.std.specs.Prelude.{Ok, Err}
 use Rattle.fields.specs.Row.{decode}
 use Rattle.folds.specs.Folds.{lowest}
 use Rattle.folds.proofs.Folds.{none_at}
 use Rattle.steps.specs.declared.Step.{Step}
 use Rattle.steps.specs.declared.Cursor.{Cursor}
-use Rattle.steps.specs.declared.Read.TheVariants.{Found, Refused}
+use Rattle.refusals.specs.declared.Refusal.TheVariants.{UnknownKind, TooFewBytes}
+use Rattle.refusals.proofs.Refusals.{unless_ok}
 use Rattle.steps.specs.Step.{kind_at, length_of, step_of, row, read_refusal, read_at}
-
--- a choice that found a step chose the first
-chosen : (b : Bool) (st st' : Step) (c c' : Cursor) (n : ℕ) → cond b (Found st c) (Refused n) ≡ Found st' c' → (b ≡ true) × (st ≡ st') × (c ≡ c')
-chosen true st st' c c' n e = (refl, (cc), (cc))
-chosen false st st' c c' n e =
-    let z : ◌≡◌ {A = ℕ} 0 1 = cc in
-    absurd (omega arith)
 
 -- an answer of a byte that is there is not of an unknown kind
 known_kind : (b : Bool) (n : ℕ) → b ≡ true → b && eqb n 0 ≡ false → 0 < n
@@ -37,21 +32,21 @@ module _ (s : List ℕ) (at : ℕ) where
   abbrev pub next : Cursor
   next = record { at = at + 1 + length_of (kind_at s at) }
 
-  pub read_end : length s ≤ at → Refused 2 ≡ read_at s at
+  pub read_end : length s ≤ at → Err TooFewBytes ≡ read_at s at
   unfolding lowest read_at
   read_end h = rw (le-ltb at (length s) h, lt-ltb (length s) (at + 1 + length_of (kind_at s at)) (omega arith))
 
-  pub read_unknown : at < length s → length_of (kind_at s at) ≡ 0 → Refused 1 ≡ read_at s at
+  pub read_unknown : at < length s → length_of (kind_at s at) ≡ 0 → Err UnknownKind ≡ read_at s at
   unfolding lowest read_at
   read_unknown more h = rw (lt-ltb at (length s) more, eq-eqb (length_of (kind_at s at)) 0 h)
 
   module _ (more : at < length s) (is : 0 < length_of (kind_at s at)) where
-    pub read_short : length s < at + 1 + length_of (kind_at s at) → Refused 2 ≡ read_at s at
+    pub read_short : length s < at + 1 + length_of (kind_at s at) → Err TooFewBytes ≡ read_at s at
     unfolding lowest read_at
     read_short h =
         rw (lt-ltb at (length s) more, ne_eqb (length_of (kind_at s at)) 0 (λ z. omega arith), lt-ltb (length s) (at + 1 + length_of (kind_at s at)) h)
 
-    pub read_found : at + 1 + length_of (kind_at s at) ≤ length s → Found step_at next ≡ read_at s at
+    pub read_found : at + 1 + length_of (kind_at s at) ≤ length s → Ok (step_at, next) ≡ read_at s at
     unfolding lowest read_at
     read_found h =
         rw (lt-ltb at (length s) more, ne_eqb (length_of (kind_at s at)) 0 (λ z. omega arith), le-ltb (length s) (at + 1 + length_of (kind_at s at)) h)
@@ -64,17 +59,17 @@ pub record IsFound (s : List ℕ) (at : ℕ) (st : Step) (c : Cursor) : Type 0 w
   pub step : step_at s at ≡ st
   pub cursor : next s at ≡ c
 
-pub is_found : (s : List ℕ) (at : ℕ) (st : Step) (c : Cursor) → read_at s at ≡ Found st c → IsFound s at st c
+pub is_found : (s : List ℕ) (at : ℕ) (st : Step) (c : Cursor) → read_at s at ≡ Ok (st, c) → IsFound s at st c
 unfolding read_at
 is_found s at st c e =
-    let h = chosen (eqb (read_refusal s at) 0) (step_at s at) st (next s at) c (read_refusal s at) e in
-    let no = none_at _ refl (eqb-true (read_refusal s at) 0 h.0) in
+    let h = unless_ok (read_refusal s at) (step_at s at, next s at) (st, c) e in
+    let no = none_at _ refl h.0 in
     let fits = ltb-false (length s) (at + 1 + length_of (kind_at s at)) (no 1) in
     let more : at < length s = omega arith in
     record {
       more = more;
       known = known_kind (ltb at (length s)) (length_of (kind_at s at)) (lt-ltb at (length s) more) (no 0);
       fits = fits;
-      step = h.1;
-      cursor = h.2;
+      step = sym (ap (λ (x : Step × Cursor). x.0) h.1);
+      cursor = sym (ap (λ (x : Step × Cursor). x.1) h.1);
     }

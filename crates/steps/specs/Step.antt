@@ -1,9 +1,12 @@
 -- What the bytes of a step say: document 01, "Step bytes", and lines 1 and 2 of its refusal table.
 -- Assumes nothing.
-use Rattle.std.specs.Prelude.{ℕ, ◌+◌, Bool, cond, ◌&&◌, List, [], ◌∷◌, length, get_or, drop, ltb, eqb}
+use Rattle.std.specs.Prelude.{ℕ, ◌+◌, Bool, cond, ◌&&◌, List, [], ◌∷◌, length, get_or, drop, ltb, eqb, Result, Ok, Err}
 use Rattle.fields.specs.Num.{laid}
 use Rattle.fields.specs.Row.{total, decode, encode}
 use Rattle.folds.specs.Folds.{Line, lowest}
+use Rattle.refusals.specs.declared.Refusal.{Refusal}
+use Rattle.refusals.specs.declared.Refusal.TheVariants.{TooFewBytes}
+use Rattle.refusals.specs.Refusals.{unless}
 use Rattle.steps.specs.declared.BarrierStep.{BarrierStep}
 use Rattle.steps.specs.declared.BarrierStep.TheVariants as barrier
 use Rattle.steps.specs.declared.ObjectStep.{ObjectStep}
@@ -11,10 +14,7 @@ use Rattle.steps.specs.declared.ObjectStep.TheVariants as object
 use Rattle.steps.specs.declared.Op.{Op}
 use Rattle.steps.specs.declared.Op.TheVariants.{Exit, Barrier, Object, PendingCount}
 use Rattle.steps.specs.declared.Step.{Step}
-use Rattle.steps.specs.declared.Read.{Read}
-use Rattle.steps.specs.declared.Read.TheVariants as read
-use Rattle.steps.specs.declared.Wrote.{Wrote}
-use Rattle.steps.specs.declared.Wrote.TheVariants as wrote
+use Rattle.steps.specs.declared.Cursor.{Cursor}
 
 -- ---- the table of kinds
 
@@ -104,11 +104,10 @@ abbrev pub read_refusal : List ℕ → ℕ → ℕ
 read_refusal s at = lowest (read_lines s at)
 
 -- the step that stands at a place, with the place after it; or the refusal
-unfoldable pub read_at : List ℕ → ℕ → Read
+unfoldable pub read_at : List ℕ → ℕ → Result (Step × Cursor) Refusal
 read_at s at =
     let k = kind_at s at in
-    let n = read_refusal s at in
-    cond (eqb n 0) (read.Found (step_of k (decode (row k) (drop (at + 1) s))) (record { at = at + 1 + length_of k })) (read.Refused n)
+    unless (read_refusal s at) (step_of k (decode (row k) (drop (at + 1) s)), record { at = at + 1 + length_of k })
 
 -- ---- writing
 
@@ -186,8 +185,8 @@ abbrev pub no_room : Step → List ℕ → ℕ → Bool
 no_room s out at = ltb (length out) (at + length (bytes_of s))
 
 -- the place after the step, or the refusal
-abbrev pub write_at : Step → List ℕ → ℕ → Wrote
-write_at s out at = cond (no_room s out at) (wrote.Refused 2) (wrote.Next (at + length (bytes_of s)))
+abbrev pub write_at : Step → List ℕ → ℕ → Result ℕ Refusal
+write_at s out at = cond (no_room s out at) (Err TooFewBytes) (Ok (at + length (bytes_of s)))
 
 -- the bytes afterwards: only the step's own change, and a refusal changes none
 abbrev pub written : Step → List ℕ → ℕ → List ℕ

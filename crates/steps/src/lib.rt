@@ -1,11 +1,14 @@
 // A step, its bytes read, and the table of body lengths; what writing it promises is stated here too.
 #![tactic(auto)]
 
-ghost use Rattle.std.specs.Prelude.{◌≡◌, List, [], ◌∷◌, ℕ, ◌+◌, ◌<◌, drop};
+ghost use Rattle.std.specs.Prelude.{◌≡◌};
 ghost use Rattle.fields.specs.Row.{decode};
-ghost use Rattle.steps.specs.declared.Op.TheVariants.{Barrier, Object};
-ghost use Rattle.steps.specs.Step.{length_of, row, step_of, read_at};
-ghost use Rattle.steps.specs.Fields.{width, op_with};
+ghost use Rattle.steps.specs.Kind.{byte_of};
+ghost use Rattle.steps.specs.Step.{row, op_of, step_of, read_at};
+
+use fields::number;
+use kinds::Kind;
+use refusals::Refusal;
 
 pub mod kinds;
 pub mod lengths;
@@ -66,119 +69,84 @@ pub struct Cursor {
     pub at: usize,
 }
 
-// A step with the cursor after it, or the refusal.
-#[derive(Clone, Copy)]
-pub enum Read {
-    Found(Step, Cursor),
-    Refused(u8),
-}
-
-// The place after a step that was written, or the refusal.
-#[derive(Clone, Copy)]
-pub enum Wrote {
-    Next(usize),
-    Refused(u8),
-}
-
-// A barrier step of a kind that has a barrier. Its fields behind the barrier stand from at on.
-fn barrier_step(kind: u8, s: &[u8], at: usize) -> BarrierStep
-    requires { (width kind 1 ≡ 1) × (at + 3 < 18446744073709551616) }
-    ensures { (w x : ℕ) → Barrier x result ≡ op_with kind (w ∷ x ∷ []) (drop at s.now) }
+// What a kind says. Its body's fields stand behind the warp, each at its place, and no others are read.
+#[tactic(auto, using(crate::proofs::Fields::onward))]
+fn op_of(kind: Kind, body: &[u8]) -> Op
+    ensures { result ≡ op_of (byte_of kind) (decode (row (byte_of kind)) body.now) }
 {
     match kind {
-        kinds::SYNC_ALL => BarrierStep::SyncAll,
-        kinds::SYNC => BarrierStep::Sync(fields::two(s, at)),
-        kinds::BARRIER_ARRIVE => BarrierStep::Arrive(fields::two(s, at)),
-        kinds::RED_ALL => BarrierStep::RedAll {
-            selector: fields::one(s, at),
-            mask: fields::four(s, at + 1),
-        },
-        _ => BarrierStep::Red {
-            selector: fields::one(s, at),
-            threads: fields::two(s, at + 1),
-            mask: fields::four(s, at + 3),
-        },
+        Kind::Exit => Op::Exit,
+        Kind::SyncAll => Op::Barrier(number(body, 1), BarrierStep::SyncAll),
+        Kind::Sync => Op::Barrier(number(body, 1), BarrierStep::Sync(number(body, 2))),
+        Kind::BarrierArrive => Op::Barrier(number(body, 1), BarrierStep::Arrive(number(body, 2))),
+        Kind::RedAll => Op::Barrier(
+            number(body, 1),
+            BarrierStep::RedAll {
+                selector: number(body, 2),
+                mask: number(body, 3),
+            },
+        ),
+        Kind::Red => Op::Barrier(
+            number(body, 1),
+            BarrierStep::Red {
+                selector: number(body, 2),
+                threads: number(body, 3),
+                mask: number(body, 5),
+            },
+        ),
+        Kind::Init => Op::Object(number(body, 1), ObjectStep::Init(number(body, 3))),
+        Kind::Inval => Op::Object(number(body, 1), ObjectStep::Inval),
+        Kind::Arrive => Op::Object(number(body, 1), ObjectStep::Arrive(number(body, 3))),
+        Kind::ArriveNoComplete => Op::Object(
+            number(body, 1),
+            ObjectStep::ArriveNoComplete(number(body, 3)),
+        ),
+        Kind::ArriveExpect => Op::Object(
+            number(body, 1),
+            ObjectStep::ArriveExpect(number(body, 3)),
+        ),
+        Kind::Drop => Op::Object(number(body, 1), ObjectStep::Drop(number(body, 3))),
+        Kind::DropExpect => Op::Object(number(body, 1), ObjectStep::DropExpect(number(body, 3))),
+        Kind::Expect => Op::Object(number(body, 1), ObjectStep::Expect(number(body, 3))),
+        Kind::Complete => Op::Object(number(body, 1), ObjectStep::Complete(number(body, 3))),
+        Kind::TestToken => Op::Object(number(body, 1), ObjectStep::TestToken(number(body, 3))),
+        Kind::TestParity => Op::Object(number(body, 1), ObjectStep::TestParity(number(body, 3))),
+        Kind::PendingCount => Op::PendingCount(number(body, 1)),
+        Kind::DropNoComplete => Op::Object(
+            number(body, 1),
+            ObjectStep::DropNoComplete(number(body, 3)),
+        ),
     }
 }
 
-// An object step of a kind whose field behind the address is a number of four bytes.
-fn counted(kind: u8, n: u32) -> ObjectStep
-    requires { width kind 2 ≡ 4 }
-    ensures { (w x : ℕ) (l : List ℕ) → Object x result ≡ op_with kind (w ∷ x ∷ n ∷ []) l }
-{
-    match kind {
-        kinds::INIT => ObjectStep::Init(n),
-        kinds::ARRIVE => ObjectStep::Arrive(n),
-        kinds::ARRIVE_NO_COMPLETE => ObjectStep::ArriveNoComplete(n),
-        kinds::ARRIVE_EXPECT => ObjectStep::ArriveExpect(n),
-        kinds::DROP => ObjectStep::Drop(n),
-        kinds::DROP_EXPECT => ObjectStep::DropExpect(n),
-        kinds::EXPECT => ObjectStep::Expect(n),
-        kinds::COMPLETE => ObjectStep::Complete(n),
-        _ => ObjectStep::DropNoComplete(n),
-    }
-}
-
-// An object step of a kind that has an address. Its field behind the address, if it has one, stands at at.
-fn object_step(kind: u8, s: &[u8], at: usize) -> ObjectStep
-    requires { width kind 1 ≡ 2 }
-    ensures { (w x : ℕ) → Object x result ≡ op_with kind (w ∷ x ∷ []) (drop at s.now) }
-{
-    match kind {
-        kinds::INVAL => ObjectStep::Inval,
-        kinds::TEST_TOKEN => ObjectStep::TestToken(fields::eight(s, at)),
-        kinds::TEST_PARITY => ObjectStep::TestParity(fields::one(s, at)),
-        _ => counted(kind, fields::four(s, at)),
-    }
-}
-
-// What a known kind says. Its fields behind the warp stand from at on, and no others are read.
-fn op_at(kind: u8, s: &[u8], at: usize) -> Op
-    requires { (0 < length_of kind) × (at + 4 < 18446744073709551616) }
-    ensures { (w : ℕ) → result ≡ op_with kind (w ∷ []) (drop at s.now) }
-{
-    if kind == kinds::EXIT {
-        return Op::Exit;
-    }
-    if kind <= kinds::RED {
-        return Op::Barrier(fields::one(s, at), barrier_step(kind, s, at + 1));
-    }
-    if kind == kinds::PENDING_COUNT {
-        return Op::PendingCount(fields::eight(s, at));
-    }
-    Op::Object(fields::two(s, at), object_step(kind, s, at + 2))
-}
-
-// The step of a known kind whose body starts at at.
-fn step_at(kind: u8, s: &[u8], at: usize) -> Step
-    requires { (0 < length_of kind) × (at + 5 < 18446744073709551616) }
-    ensures { result ≡ step_of kind (decode (row kind) (drop at s.now)) }
+// The step that a kind and its body say.
+fn step_of(kind: Kind, body: &[u8]) -> Step
+    ensures { result ≡ step_of (byte_of kind) (decode (row (byte_of kind)) body.now) }
 {
     Step {
-        warp: fields::one(s, at),
-        op: op_at(kind, s, at + 1),
+        warp: number(body, 0),
+        op: op_of(kind, body),
     }
 }
 
 impl Cursor {
-    // The step at the cursor with the cursor after it, or the refusal: 1 an unknown kind, 2 too few bytes.
-    #[tactic(auto, using(crate::proofs::Reading::read_end, crate::proofs::Reading::read_unknown, crate::proofs::Reading::read_short, crate::proofs::Reading::read_found))]
-    pub fn read(self, s: &[u8]) -> Read
+    // The step at the cursor with the cursor after it, or the refusal: an unknown kind, or too few bytes.
+    pub fn read(self, s: &[u8]) -> Result<(Step, Cursor), Refusal>
         ensures { result ≡ read_at s.now self.at }
     {
-        let at = self.at;
-        if s.len() <= at {
-            return Read::Refused(2);
+        let [byte, body @ ..] = fields::rest(s, self.at) else {
+            return Err(Refusal::TooFewBytes);
+        };
+        let kind = Kind::try_from(*byte)?;
+        let n = lengths::length_of(*byte);
+        if body.len() < n {
+            return Err(Refusal::TooFewBytes);
         }
-        let kind = s[at];
-        let n = lengths::length_of(kind);
-        if n == 0 {
-            return Read::Refused(1);
-        }
-        let body = at + 1;
-        if s.len() - body < n {
-            return Read::Refused(2);
-        }
-        Read::Found(step_at(kind, s, body), Cursor { at: body + n })
+        Ok((
+            step_of(kind, body),
+            Cursor {
+                at: self.at + 1 + n,
+            },
+        ))
     }
 }

@@ -3,137 +3,84 @@
 #![tactic(auto)]
 
 use std::io;
-use steps::{BarrierStep, Cursor, ObjectStep, Op, Read, Step, Wrote};
+use steps::{BarrierStep, Cursor, ObjectStep, Op, Step};
 
-fn say(rt: &impl Print, text: &[u8]) -> io::Result<()> {
-    rt.write_all(text)
-}
-
-fn number(rt: &impl Print, n: u64) -> io::Result<()> {
-    rt.print(n)
-}
-
-// A name and a number after it.
-fn named(rt: &impl Print, name: &[u8], n: u64) -> io::Result<()> {
-    say(rt, name)?;
-    number(rt, n)
-}
-
-// Two names, each with its number.
-fn both(rt: &impl Print, first: &[u8], a: u64, second: &[u8], b: u64) -> io::Result<()> {
-    named(rt, first, a)?;
-    named(rt, second, b)
-}
-
+// What a warp does at a barrier.
 fn show_barrier(rt: &impl Print, k: u8, b: BarrierStep) -> io::Result<()> {
     match b {
-        BarrierStep::SyncAll => named(rt, b" sync all ", k as u64),
-        BarrierStep::Sync(t) => both(rt, b" sync ", k as u64, b" of ", t as u64),
-        BarrierStep::Arrive(t) => both(rt, b" arrive ", k as u64, b" of ", t as u64),
-        BarrierStep::RedAll { selector, mask } => {
-            named(rt, b" red all ", k as u64)?;
-            both(rt, b" by ", selector as u64, b" mask ", mask as u64)
-        }
+        BarrierStep::SyncAll => print!(rt; " sync all {k}"),
+        BarrierStep::Sync(threads) => print!(rt; " sync {k} of {threads}"),
+        BarrierStep::Arrive(threads) => print!(rt; " arrive {k} of {threads}"),
+        BarrierStep::RedAll { selector, mask } => print!(rt;
+            " red all {k} by {selector} mask {mask}"
+        ),
         BarrierStep::Red {
             selector,
             threads,
             mask,
-        } => {
-            both(rt, b" red ", k as u64, b" by ", selector as u64)?;
-            both(rt, b" of ", threads as u64, b" mask ", mask as u64)
-        }
+        } => print!(rt; " red {k} by {selector} of {threads} mask {mask}"),
     }
 }
 
-fn show_arrival(rt: &impl Print, o: ObjectStep) -> io::Result<()> {
-    match o {
-        ObjectStep::Arrive(n) => named(rt, b" arrive ", n as u64),
-        ObjectStep::ArriveNoComplete(n) => named(rt, b" arrive noComplete ", n as u64),
-        ObjectStep::ArriveExpect(n) => named(rt, b" arrive expect ", n as u64),
-        ObjectStep::Drop(n) => named(rt, b" drop ", n as u64),
-        ObjectStep::DropNoComplete(n) => named(rt, b" drop noComplete ", n as u64),
-        ObjectStep::DropExpect(n) => named(rt, b" drop expect ", n as u64),
-        _ => say(rt, b" no arrival"),
-    }
-}
-
+// What a warp does with an object.
 fn show_object(rt: &impl Print, o: ObjectStep) -> io::Result<()> {
     match o {
-        ObjectStep::Init(n) => named(rt, b" init ", n as u64),
-        ObjectStep::Inval => say(rt, b" inval"),
-        ObjectStep::Expect(n) => named(rt, b" expect ", n as u64),
-        ObjectStep::Complete(n) => named(rt, b" complete ", n as u64),
-        ObjectStep::TestToken(t) => named(rt, b" test token ", t),
-        ObjectStep::TestParity(p) => named(rt, b" test parity ", p as u64),
-        _ => show_arrival(rt, o),
+        ObjectStep::Init(n) => print!(rt; " init {n}"),
+        ObjectStep::Inval => print!(rt; " inval"),
+        ObjectStep::Arrive(n) => print!(rt; " arrive {n}"),
+        ObjectStep::ArriveNoComplete(n) => print!(rt; " arrive noComplete {n}"),
+        ObjectStep::ArriveExpect(n) => print!(rt; " arrive expect {n}"),
+        ObjectStep::Drop(n) => print!(rt; " drop {n}"),
+        ObjectStep::DropNoComplete(n) => print!(rt; " drop noComplete {n}"),
+        ObjectStep::DropExpect(n) => print!(rt; " drop expect {n}"),
+        ObjectStep::Expect(n) => print!(rt; " expect {n}"),
+        ObjectStep::Complete(n) => print!(rt; " complete {n}"),
+        ObjectStep::TestToken(token) => print!(rt; " test token {token}"),
+        ObjectStep::TestParity(parity) => print!(rt; " test parity {parity}"),
     }
 }
 
+// What a step says.
 fn show(rt: &impl Print, step: Step) -> io::Result<()> {
-    named(rt, b"warp ", step.warp as u64)?;
-    let op = step.op;
-    match op {
-        Op::Exit => say(rt, b" exit"),
+    let warp = step.warp;
+    print!(rt; "warp {warp}")?;
+    match step.op {
+        Op::Exit => print!(rt; " exit"),
         Op::Barrier(k, b) => show_barrier(rt, k, b),
         Op::Object(address, o) => {
             show_object(rt, o)?;
-            named(rt, b" at ", address as u64)
+            print!(rt; " at {address}")
         }
-        Op::PendingCount(t) => named(rt, b" pending ", t),
+        Op::PendingCount(token) => print!(rt; " pending {token}"),
     }
-}
-
-fn show_byte(rt: &impl Print, b: u8) -> io::Result<()> {
-    say(rt, b" ")?;
-    print!(rt; "{b:02x}")
-}
-
-fn show_bytes(rt: &impl Print, s: &[u8]) -> io::Result<()> {
-    let mut i = 0;
-    while i < s.len() {
-        show_byte(rt, s[i])?;
-        i += 1;
-    }
-    Ok(())
 }
 
 // The bytes of a step, written into a row and shown.
-fn rewrite_in(rt: &impl Print, step: Step, row: &mut [u8]) -> io::Result<()> {
-    let wrote = steps_writer::write(step, &mut *row, 0);
-    let Wrote::Next(end) = wrote else {
-        return say(rt, b"; no room\n");
-    };
-    if row.len() < end {
-        return Ok(());
-    }
-    say(rt, b",")?;
-    show_bytes(rt, &row[..end])?;
-    say(rt, b"\n")
-}
-
 fn rewrite(rt: &impl Print, step: Step) -> io::Result<()> {
     let mut row = [0u8; 16];
-    rewrite_in(rt, step, &mut row)
+    let Ok(end) = steps_writer::write(step, &mut row, 0) else {
+        return println!(rt; "; no room");
+    };
+    print!(rt; ",")?;
+    for b in row.iter().take(end) {
+        print!(rt; " {b:02x}")?;
+    }
+    println!(rt)
 }
 
 // Every step from a place on, up to the refusal.
 fn trace(rt: &impl Print, s: &[u8], start: usize) -> io::Result<()> {
     let mut cursor = Cursor { at: start };
-    let mut left = s.len() + 1;
-    while 0 < left {
-        left = left - 1;
-        let read = cursor.read(s);
-        match read {
-            Read::Found(step, next) => {
+    for _ in 0..=s.len() {
+        match cursor.read(s) {
+            Ok((step, next)) => {
                 show(rt, step)?;
-                named(rt, b" next ", next.at as u64)?;
+                let at = next.at;
+                print!(rt; " next {at}")?;
                 rewrite(rt, step)?;
                 cursor = next;
             }
-            Read::Refused(r) => {
-                named(rt, b"no ", r as u64)?;
-                return say(rt, b"\n");
-            }
+            Err(refusal) => return println!(rt; "no {refusal}"),
         }
     }
     Ok(())
@@ -142,11 +89,10 @@ fn trace(rt: &impl Print, s: &[u8], start: usize) -> io::Result<()> {
 // A step by itself, and without its last byte.
 fn whole_and_cut(rt: &impl Print, s: &[u8]) -> io::Result<()> {
     trace(rt, s, 0)?;
-    if 0 < s.len() {
-        let end = s.len() - 1;
-        trace(rt, &s[..end], 0)?;
-    }
-    Ok(())
+    let [cut @ .., _] = s else {
+        return Ok(());
+    };
+    trace(rt, cut, 0)
 }
 
 fn barrier_kinds(rt: &impl Print) -> io::Result<()> {
@@ -183,7 +129,7 @@ fn unknown_kinds(rt: &impl Print) -> io::Result<()> {
     trace(rt, b"\x14\x00", 0)?;
     trace(rt, b"\xff", 0)?;
     trace(rt, b"", 0)?;
-    trace(rt, b"\x01\x00", 18446744073709551615)
+    trace(rt, b"\x01\x00", usize::MAX)
 }
 
 fn main(rt: HostRuntime) -> io::Result<()> {

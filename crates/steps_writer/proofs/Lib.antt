@@ -1,2 +1,1 @@
-pub mod WidthTable
 pub mod Room

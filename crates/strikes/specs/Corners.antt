@@ -7,8 +7,8 @@ use Rattle.steps.specs.declared.Op.TheVariants.{PendingCount}
 use Rattle.steps.specs.declared.Step.{Step}
 use Rattle.object.specs.declared.Object.{Object}
 use Rattle.object.specs.Row.{dead}
-use Rattle.block.specs.declared.Verdict.{Verdict}
-use Rattle.block.specs.declared.Verdict.TheVariants.{Refused, Accepted}
+use Rattle.block.specs.Verdicts.{Verdict}
+use Rattle.block.specs.Verdicts.{accepted, refused}
 use Rattle.strikes.specs.Strikes.{barrier_step, object_step, live_row, Strike, outcome, expected}
 
 -- ---- corners, in short
@@ -41,31 +41,31 @@ two_phases = object_step (object.Arrive 1) ∷ object_step (object.TestParity 0)
 abbrev pub corners : List Strike
 corners =
     -- "1 or 0 for all true", and: 64 lanes true, 1; one of them false, 0
-    reduced 1 0xFFFFFFFF 1 0xFFFFFFFF (Accepted 1 true 3)
-    ∷ reduced 1 0xFFFFFFFF 1 0x7FFFFFFF (Accepted 0 true 3)
+    reduced 1 0xFFFFFFFF 1 0xFFFFFFFF (accepted 1 true 3)
+    ∷ reduced 1 0xFFFFFFFF 1 0x7FFFFFFF (accepted 0 true 3)
     -- "or any true", or: 64 lanes false, 0; one of them true, 1
-    ∷ reduced 2 0x00000000 2 0x00000000 (Accepted 0 true 3)
-    ∷ reduced 2 0x00000000 2 0x80000000 (Accepted 1 true 3)
+    ∷ reduced 2 0x00000000 2 0x00000000 (accepted 0 true 3)
+    ∷ reduced 2 0x00000000 2 0x80000000 (accepted 1 true 3)
     -- "1 and, 2 or": the same masks, half of the lanes true, are 0 under 1 and 1 under 2
-    ∷ reduced 1 0x0000FFFF 1 0x0000FFFF (Accepted 0 true 3)
-    ∷ reduced 2 0x0000FFFF 2 0x0000FFFF (Accepted 1 true 3)
+    ∷ reduced 1 0x0000FFFF 1 0x0000FFFF (accepted 0 true 3)
+    ∷ reduced 2 0x0000FFFF 2 0x0000FFFF (accepted 1 true 3)
     -- and they are two forms: "barrier active with another .. form" is 9
-    ∷ reduced 1 0x0000FFFF 2 0x0000FFFF (Refused 9)
+    ∷ reduced 1 0x0000FFFF 2 0x0000FFFF (refused 9)
     -- "token of 2^58 or more" is 19 in a pending count; one less leaves 2^20 - 1 by 2^20
-    ∷ alone 1 [] (count_step (2 ^ 58)) (Refused 19) (live_row 1 1 (pos 0) 0 true)
-    ∷ alone 1 [] (count_step (2 ^ 58 - 1)) (Accepted 1048575 false 0) (live_row 1 1 (pos 0) 0 true)
+    ∷ alone 1 [] (count_step (2 ^ 58)) (refused 19) (live_row 1 1 (pos 0) 0 true)
+    ∷ alone 1 [] (count_step (2 ^ 58 - 1)) (accepted 1048575 false 0) (live_row 1 1 (pos 0) 0 true)
     -- and in a test: the object's own token of phase 0, which is 2 times 2^20 plus 1, says 0, and 2^58 more is 19
-    ∷ alone 1 [] (object_step (object.TestToken 2097153)) (Accepted 0 false 0) (live_row 1 1 (pos 0) 0 true)
-    ∷ alone 1 [] (object_step (object.TestToken (2 ^ 58 + 2097153))) (Refused 19) (live_row 1 1 (pos 0) 0 true)
+    ∷ alone 1 [] (object_step (object.TestToken 2097153)) (accepted 0 false 0) (live_row 1 1 (pos 0) 0 true)
+    ∷ alone 1 [] (object_step (object.TestToken (2 ^ 58 + 2097153))) (refused 19) (live_row 1 1 (pos 0) 0 true)
     -- "parity above 1": 2 is 20
-    ∷ alone 1 [] (object_step (object.TestParity 2)) (Refused 20) (live_row 1 1 (pos 0) 0 true)
+    ∷ alone 1 [] (object_step (object.TestParity 2)) (refused 20) (live_row 1 1 (pos 0) 0 true)
     -- "in phase 0 there is no previous phase and parity 1 says 0"
-    ∷ alone 1 [] (object_step (object.TestParity 1)) (Accepted 0 false 0) (live_row 1 1 (pos 0) 0 true)
+    ∷ alone 1 [] (object_step (object.TestParity 1)) (accepted 0 false 0) (live_row 1 1 (pos 0) 0 true)
     -- "arrival or drop while the previous phase is unseen": two arrivals end phase 0, and a drop is 16
-    ∷ alone 2 (object_step (object.Arrive 2) ∷ []) (object_step (object.Drop 1)) (Refused 16) (live_row 2 2 (pos 0) 1 false)
+    ∷ alone 2 (object_step (object.Arrive 2) ∷ []) (object_step (object.Drop 1)) (refused 16) (live_row 2 2 (pos 0) 1 false)
     -- "of a phase neither current nor the one before": in phase 2 a token of phase 0 is 19, and one of phase 1, 2^26 more, says 1
-    ∷ alone 1 two_phases (object_step (object.TestToken 2097153)) (Refused 19) (live_row 1 1 (pos 0) 2 false)
-    ∷ alone 1 two_phases (object_step (object.TestToken 69206017)) (Accepted 1 false 0) (live_row 1 1 (pos 0) 2 true)
+    ∷ alone 1 two_phases (object_step (object.TestToken 2097153)) (refused 19) (live_row 1 1 (pos 0) 2 false)
+    ∷ alone 1 two_phases (object_step (object.TestToken 69206017)) (accepted 1 false 0) (live_row 1 1 (pos 0) 2 true)
     ∷ []
 
 -- every corner comes out as the table says

@@ -9,8 +9,8 @@ use Rattle.steps.specs.declared.Op.TheVariants.{Exit, Barrier, Object}
 use Rattle.steps.specs.declared.Step.{Step}
 use Rattle.object.specs.declared.Object as row
 use Rattle.object.specs.Row.{dead}
-use Rattle.block.specs.declared.Verdict.{Verdict}
-use Rattle.block.specs.declared.Verdict.TheVariants.{Refused, Accepted}
+use Rattle.block.specs.Verdicts.{Verdict}
+use Rattle.block.specs.Verdicts.{accepted, refused}
 use Rattle.tables.specs.Tables.{fresh_tables, fresh_tally}
 use Rattle.tables.specs.Effect.{verdict, after, run}
 
@@ -62,31 +62,31 @@ expected k = (k.says, k.leaves)
 abbrev pub strikes : List Strike
 strikes =
     -- one warp, sync all: done at once, released 1
-    record { warps = 1; before = []; last = barrier_step 0 0 barrier.SyncAll; says = Accepted 0 true 1; leaves = dead }
+    record { warps = 1; before = []; last = barrier_step 0 0 barrier.SyncAll; says = accepted 0 true 1; leaves = dead }
     -- three warps, 0 and 1 sync all, 2 exits: done, released 3
-    ∷ record { warps = 3; before = barrier_step 0 0 barrier.SyncAll ∷ barrier_step 1 0 barrier.SyncAll ∷ []; last = exit_step 2; says = Accepted 0 true 3; leaves = dead }
+    ∷ record { warps = 3; before = barrier_step 0 0 barrier.SyncAll ∷ barrier_step 1 0 barrier.SyncAll ∷ []; last = exit_step 2; says = accepted 0 true 3; leaves = dead }
     -- two warps, popc all on barrier 1, masks 0x0000000F plain and 0xFFFFFFFF complemented: value 4
     ∷ record {
       warps = 2;
       before = barrier_step 0 1 (barrier.RedAll 0 0x0000000F) ∷ [];
       last = barrier_step 1 1 (barrier.RedAll 4 0xFFFFFFFF);
-      says = Accepted 4 true 3;
+      says = accepted 4 true 3;
       leaves = dead;
     }
     -- threads 33: 7
-    ∷ record { warps = 2; before = []; last = barrier_step 0 0 (barrier.Sync 33); says = Refused 7; leaves = dead }
+    ∷ record { warps = 2; before = []; last = barrier_step 0 0 (barrier.Sync 33); says = refused 7; leaves = dead }
     -- threads 32: completes with one arrival
-    ∷ record { warps = 2; before = []; last = barrier_step 0 0 (barrier.Sync 32); says = Accepted 0 true 1; leaves = dead }
+    ∷ record { warps = 2; before = []; last = barrier_step 0 0 (barrier.Sync 32); says = accepted 0 true 1; leaves = dead }
     -- two warps, one arrives for 64, then syncs for 64 on the same barrier: 10
-    ∷ record { warps = 2; before = barrier_step 0 0 (barrier.Arrive 64) ∷ []; last = barrier_step 0 0 (barrier.Sync 64); says = Refused 10; leaves = dead }
+    ∷ record { warps = 2; before = barrier_step 0 0 (barrier.Arrive 64) ∷ []; last = barrier_step 0 0 (barrier.Sync 64); says = refused 10; leaves = dead }
     -- address 16, init 3, arrive 1: token 2,097,155
-    ∷ record { warps = 1; before = object_step (object.Init 3) ∷ []; last = object_step (object.Arrive 1); says = Accepted 2097155 false 0; leaves = live_row 3 2 (pos 0) 0 true }
+    ∷ record { warps = 1; before = object_step (object.Init 3) ∷ []; last = object_step (object.Arrive 1); says = accepted 2097155 false 0; leaves = live_row 3 2 (pos 0) 0 true }
     -- three such arrivals, a test saying 1,
     ∷ record {
       warps = 1;
       before = object_step (object.Init 3) ∷ object_step (object.Arrive 1) ∷ object_step (object.Arrive 1) ∷ object_step (object.Arrive 1) ∷ [];
       last = object_step (object.TestToken 2097155);
-      says = Accepted 1 false 0;
+      says = accepted 1 false 0;
       leaves = live_row 3 3 (pos 0) 1 true;
     }
     -- one more: token 69,206,019
@@ -94,7 +94,7 @@ strikes =
       warps = 1;
       before = object_step (object.Init 3) ∷ object_step (object.Arrive 1) ∷ object_step (object.Arrive 1) ∷ object_step (object.Arrive 1) ∷ object_step (object.TestToken 2097155) ∷ [];
       last = object_step (object.Arrive 1);
-      says = Accepted 69206019 false 0;
+      says = accepted 69206019 false 0;
       leaves = live_row 3 2 (pos 0) 1 true;
     }
     -- without the test: 16
@@ -102,7 +102,7 @@ strikes =
       warps = 1;
       before = object_step (object.Init 3) ∷ object_step (object.Arrive 1) ∷ object_step (object.Arrive 1) ∷ object_step (object.Arrive 1) ∷ [];
       last = object_step (object.Arrive 1);
-      says = Refused 16;
+      says = refused 16;
       leaves = live_row 3 3 (pos 0) 1 false;
     }
     -- init 1, complete 64, arrive with expect 64: completes then
@@ -110,7 +110,7 @@ strikes =
       warps = 1;
       before = object_step (object.Init 1) ∷ object_step (object.Complete 64) ∷ [];
       last = object_step (object.ArriveExpect 64);
-      says = Accepted 2097153 true 0;
+      says = accepted 2097153 true 0;
       leaves = live_row 1 1 (pos 0) 1 false;
     }
     -- init 1, complete 64, arrive 1: pending 0, transactions -64, phase 0
@@ -118,7 +118,7 @@ strikes =
       warps = 1;
       before = object_step (object.Init 1) ∷ object_step (object.Complete 64) ∷ [];
       last = object_step (object.Arrive 1);
-      says = Accepted 2097153 false 0;
+      says = accepted 2097153 false 0;
       leaves = live_row 1 0 (negsuc 63) 0 true;
     }
     -- from there expect 64: both 0, phase still 0;
@@ -126,7 +126,7 @@ strikes =
       warps = 1;
       before = object_step (object.Init 1) ∷ object_step (object.Complete 64) ∷ object_step (object.Arrive 1) ∷ [];
       last = object_step (object.Expect 64);
-      says = Accepted 0 false 0;
+      says = accepted 0 false 0;
       leaves = live_row 1 0 (pos 0) 0 true;
     }
     -- complete 0 ends it
@@ -134,7 +134,7 @@ strikes =
       warps = 1;
       before = object_step (object.Init 1) ∷ object_step (object.Complete 64) ∷ object_step (object.Arrive 1) ∷ object_step (object.Expect 64) ∷ [];
       last = object_step (object.Complete 0);
-      says = Accepted 0 true 0;
+      says = accepted 0 true 0;
       leaves = live_row 1 1 (pos 0) 1 false;
     }
     -- complete 1,048,575 on 0 accepted;
@@ -142,7 +142,7 @@ strikes =
       warps = 1;
       before = object_step (object.Init 1) ∷ [];
       last = object_step (object.Complete 1048575);
-      says = Accepted 0 false 0;
+      says = accepted 0 false 0;
       leaves = live_row 1 1 (negsuc 1048574) 0 true;
     }
     -- complete 1 more: 15
@@ -150,17 +150,17 @@ strikes =
       warps = 1;
       before = object_step (object.Init 1) ∷ object_step (object.Complete 1048575) ∷ [];
       last = object_step (object.Complete 1);
-      says = Refused 15;
+      says = refused 15;
       leaves = live_row 1 1 (negsuc 1048574) 0 true;
     }
     -- init 1, drop 1: 14
-    ∷ record { warps = 1; before = object_step (object.Init 1) ∷ []; last = object_step (object.Drop 1); says = Refused 14; leaves = live_row 1 1 (pos 0) 0 true }
+    ∷ record { warps = 1; before = object_step (object.Init 1) ∷ []; last = object_step (object.Drop 1); says = refused 14; leaves = live_row 1 1 (pos 0) 0 true }
     -- init 2, drop 1, arrive 1: phase 1, pending 1
     ∷ record {
       warps = 1;
       before = object_step (object.Init 2) ∷ object_step (object.Drop 1) ∷ [];
       last = object_step (object.Arrive 1);
-      says = Accepted 2097153 true 0;
+      says = accepted 2097153 true 0;
       leaves = live_row 1 1 (pos 0) 1 false;
     }
     ∷ []

@@ -12,8 +12,8 @@ use Rattle.block.specs.declared.Warp.{Warp}
 use Rattle.block.specs.declared.Form.{Form}
 use Rattle.block.specs.declared.Form.TheVariants.{Idle, Plain, Popc}
 use Rattle.block.specs.declared.Barrier.{Barrier}
-use Rattle.block.specs.declared.Verdict.{Verdict}
-use Rattle.block.specs.declared.Verdict.TheVariants.{Refused, Accepted}
+use Rattle.block.specs.Verdicts.{Verdict}
+use Rattle.block.specs.Verdicts.{accepted, refused}
 use Rattle.block.specs.Tables.{most_warps, barrier_count, fresh_warp, idle, warp_at, barrier_at, live_of, warps_counted, spare_fresh, sets_inside, waits_placed, agreeing, waiting_arrived, idle_zero, active_arrived, active_count, count_open, all_open, reduction_waits, plain_none}
 use Rattle.tables.specs.Tables.{Tables, tallied}
 use Rattle.tables.specs.Effect.{verdict}
@@ -141,7 +141,7 @@ broken =
 abbrev pub AllBroken : Type 0
 AllBroken =
     map {B = List Bool × Verdict} (λ b. (clauses b.tables, verdict b.tables (exit_step 0))) broken
-    ≡ map {B = List Bool × Verdict} (λ b. (set (replicate 20 true) b.clause false, Refused 3)) broken
+    ≡ map {B = List Bool × Verdict} (λ b. (set (replicate 20 true) b.clause false, refused 3)) broken
 
 -- ---- the last phase, and the largest tallies
 
@@ -153,14 +153,14 @@ abbrev pub LastPhase : Type 0
 LastPhase =
     verdict (last 1) (object_step (object.Arrive 1)) ∷ verdict (last 1) (object_step (object.ArriveNoComplete 1)) ∷ verdict (last 0) (object_step (object.Complete 0))
     ∷ verdict (last 2) (object_step (object.Arrive 1)) ∷ []
-    ≡ Refused 18 ∷ Refused 17 ∷ Refused 18 ∷ Accepted 288230376086700034 false 0 ∷ []
+    ≡ refused 18 ∷ refused 17 ∷ refused 18 ∷ accepted 288230376086700034 false 0 ∷ []
 
 abbrev pub LargestTally : Type 0
 LargestTally =
-    tallied (record { accepted = 4294967295; refused = 7 }) (Accepted 0 false 0)
-    ∷ tallied (record { accepted = 7; refused = 4294967295 }) (Refused 5)
-    ∷ tallied (record { accepted = 4294967294; refused = 7 }) (Accepted 0 false 0)
-    ∷ tallied (record { accepted = 7; refused = 4294967294 }) (Refused 5)
+    tallied (record { accepted = 4294967295; refused = 7 }) (accepted 0 false 0)
+    ∷ tallied (record { accepted = 7; refused = 4294967295 }) (refused 5)
+    ∷ tallied (record { accepted = 4294967294; refused = 7 }) (accepted 0 false 0)
+    ∷ tallied (record { accepted = 7; refused = 4294967294 }) (refused 5)
     ∷ []
     ≡ record { accepted = 4294967295; refused = 7 }
     ∷ record { accepted = 7; refused = 4294967295 }

@@ -16,9 +16,10 @@ use Rattle.steps.specs.declared.Op.TheVariants.{Exit, Barrier, Object, PendingCo
 use Rattle.steps.specs.declared.Step.{Step}
 use Rattle.object.specs.declared.Object as object
 use Rattle.object.specs.declared.Answer.{Answer}
-use Rattle.object.specs.declared.Answer.TheVariants as answer
+use Rattle.refusals.specs.declared.Refusal.{Refusal}
+use Rattle.std.specs.Prelude.{Result, Ok, Err}
 use Rattle.object.specs.Row as row
-use Rattle.block.specs.declared.Verdict.TheVariants.{Accepted}
+use Rattle.block.specs.Verdicts.{accepted}
 use Rattle.block.specs.Tables.{is_idle}
 use Rattle.block_steps.specs.Steps as barriers
 use Rattle.barrier_calls.proofs.Calls.{selector_form}
@@ -61,9 +62,9 @@ place_below a e = ltb-false last_address a (or_right (not (eqb (a % object_size)
 -- ---- a step that no line refuses
 
 -- an object's answer, which leaves the block
-abbrev pub answered : View → Answer → Taken
-answered v (answer.Refused n) = refused v n
-answered v (answer.Accepted next value done) = record { verdict = Accepted value done 0; block = v.block; object = next }
+abbrev pub answered : View → Result Answer Refusal → Taken
+answered v (Err r) = record { verdict = Err r; block = v.block; object = v.object }
+answered v (Ok a) = record { verdict = accepted a.value a.done 0; block = v.block; object = a.row }
 
 -- the kind's own part of a step
 abbrev pub own : View → ℕ → Op → Taken

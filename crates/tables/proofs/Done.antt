@@ -24,7 +24,7 @@ use Rattle.object.specs.Row as row
 use Rattle.block.specs.declared.Barrier.{Barrier as BarrierRow}
 use Rattle.block.specs.declared.Block.{Block}
 use Rattle.block.specs.declared.Turn.{Turn}
-use Rattle.block.specs.declared.Verdict.TheVariants.{Accepted}
+use Rattle.block.specs.Verdicts.{accepted}
 use Rattle.block.specs.Tables.{barrier_count, idle, barrier_at, live_of, is_idle, sound_block}
 use Rattle.barrier_row.specs.Rows as rows
 use Rattle.block_steps.specs.Steps as barriers
@@ -77,7 +77,7 @@ module _ (t : Tables) (w : ℕ) (ok : is_accepted (verdict t (record { warp = w;
   Emptied x = (k : ℕ) × (is_idle (barrier_at t.block k).form ≡ false) × (is_idle (barrier_at x.block k).form ≡ true)
 
   exit_turn : (shaped : Shaped t.block) (c : Bool) → ltb (barriers.opened left) barrier_count ≡ c
-      → let x = cond c (barriers.completed left (barriers.opened left) (barrier_at left (barriers.opened left))) (record { verdict = Accepted 0 false 0; block = left }) in
+      → let x = cond c (barriers.completed left (barriers.opened left) (barrier_at left (barriers.opened left))) (record { verdict = accepted 0 false 0; block = left }) in
       (done_of x.verdict ≡ true) ↔ Emptied x
   exit_turn shaped true h =
       let k = barriers.opened left in

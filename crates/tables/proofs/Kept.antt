@@ -10,6 +10,7 @@ use borrow.Author.Tests.{eqb-true}
 use lib.Dec.{eqb}
 use lib.ListN.{length, get_or, set, length-set, get_or-eq_default}
 use lib.Seq.{get_or-set_same, get_or-set_other}
+use Rattle.std.specs.Prelude.{Some, None}
 use Rattle.folds.specs.Folds.{all}
 use Rattle.folds.proofs.Folds.{and_left, and_right, all_at, all_of}
 use Rattle.sets.specs.Sets.{less}
@@ -20,15 +21,14 @@ use Rattle.steps.specs.declared.Op.TheVariants.{Exit, Barrier, Object, PendingCo
 use Rattle.object.specs.declared.Object as object
 use Rattle.object.specs.declared.Act.{Act}
 use Rattle.object.specs.declared.Answer.{Answer}
-use Rattle.object.specs.declared.Answer.TheVariants as answer
+use Rattle.refusals.specs.declared.Refusal.{Refusal}
+use Rattle.std.specs.Prelude.{Result, Ok, Err}
 use Rattle.object.specs.Tokens.{slots}
 use Rattle.object.specs.Row as row
 use Rattle.object.specs.Soundness.{sound_row}
 use Rattle.object.proofs.Soundness as kept
 use Rattle.block.specs.declared.Block.{Block}
-use Rattle.block.specs.declared.Threads.TheVariants.{All, Given}
-use Rattle.block.specs.declared.Verdict.{Verdict}
-use Rattle.block.specs.declared.Verdict.TheVariants.{Refused, Accepted}
+use Rattle.block.specs.Verdicts.{Verdict}
 use Rattle.block.specs.Tables.{barrier_at, live_of, sound_block}
 use Rattle.block_steps.specs.Steps as barriers
 use Rattle.block_laws.specs.Sound.{Shaped, Asks}
@@ -65,10 +65,10 @@ objects_sound l h i o k =
     at j q (no e) = rw (get_or-set_other l i j o row.dead e) (row_sound_lem l h j)
 
 -- the row of an answer to a step on a sound row
-answer_sound : (v : View) (slot : ℕ) (x : Act) (a : Answer) → row.step_row v.object slot x ≡ a → sound_row v.object ≡ true
+answer_sound : (v : View) (slot : ℕ) (x : Act) (a : Result Answer Refusal) → row.step_row v.object slot x ≡ a → sound_row v.object ≡ true
     → sound_row (answered v a).object ≡ true
-answer_sound v slot x (answer.Refused n) e h = h
-answer_sound v slot x (answer.Accepted o u d) e h = kept.keeps_sound v.object slot x o u d h e
+answer_sound v slot x (Err r) e h = h
+answer_sound v slot x (Ok a) e h = kept.keeps_sound v.object slot x a h e
 
 object_sound : (v : View) (w : ℕ) (o : Op) → sound_row v.object ≡ true → sound_row (taken v (record { warp = w; op = o })).object ≡ true
 object_sound v w o h = taken_has (λ (x : Taken). sound_row x.object ≡ true) v w o (λ n. h) (own o)
@@ -83,16 +83,16 @@ object_sound v w o h = taken_has (λ (x : Taken). sound_row x.object ≡ true) v
 
 -- every call that a step makes asks what the block's laws want
 asks : (b : BarrierStep) → Asks (call_of b)
-asks SyncAll = (sound.calls_ask).sync All
-asks (Sync t) = (sound.calls_ask).sync (Given t)
+asks SyncAll = (sound.calls_ask).sync None
+asks (Sync t) = (sound.calls_ask).sync (Some t)
 asks (Arrive t) = (sound.calls_ask).arrive t
-asks (RedAll s m) = (sound.calls_ask).red s All m
-asks (Red s t m) = (sound.calls_ask).red s (Given t) m
+asks (RedAll s m) = (sound.calls_ask).red s None m
+asks (Red s t m) = (sound.calls_ask).red s (Some t) m
 
 -- an object's answer leaves the block
-answer_block : (v : View) (a : Answer) → (answered v a).block ≡ v.block
-answer_block v (answer.Refused n) = refl
-answer_block v (answer.Accepted o u d) = refl
+answer_block : (v : View) (a : Result Answer Refusal) → (answered v a).block ≡ v.block
+answer_block v (Err r) = refl
+answer_block v (Ok a) = refl
 
 -- a step keeps the block's shape and its soundness
 block_sound : (v : View) (w : ℕ) (o : Op) → Shaped v.block → sound_block v.block ≡ true
@@ -130,8 +130,8 @@ run_keeps_sound x (s ∷ l) h = run_keeps_sound (next x s) l (keeps_sound x.tabl
 -- after an exit, by its verdict
 exit_live : (b : Block) (w : ℕ) → Shaped b → sound_block b ≡ true → (v : Verdict) → (barriers.exit b w).verdict ≡ v
     → live_of (barriers.exit b w).block ≡ cond (is_accepted v) (less (live_of b) w) (live_of b)
-exit_live b w shaped h (Refused n) e = ap live_of ((changes.refused_leave).exit b w n e)
-exit_live b w shaped h (Accepted value done released) e = changes.exit_takes_out b w shaped h value released done e
+exit_live b w shaped h (Err r) e = ap live_of ((changes.refused_leave).exit b w r e)
+exit_live b w shaped h (Ok a) e = changes.exit_takes_out b w shaped h a.value a.released a.done e
 
 pub live_followed : LiveFollowed
 live_followed t s h =

@@ -2,14 +2,14 @@
 -- Assumes nothing.
 use mathlib.Core.Path.{◌≡◌, refl, sym, ap, ◌∙◌}
 use mathlib.Core.Bool.{Bool, true, false, cond}
-use Prim.Native.Nat.{ℕ, zero, suc, ◌<◌}
+use Prim.Native.Nat.{ℕ}
 use native.Mathlib.Decide.{ℕ_discrete}
 use native.Mathlib.Omega.{arith}
 use borrow.Author.Tests.{ne_eqb}
 use lib.Dec.{ltb}
 use lib.ListN.{get_or, set}
 use lib.Seq.{set-get_or, get_or-set_other}
-use Rattle.folds.specs.Lowest.{ascending, holds, Lowest, None}
+use Rattle.folds.specs.Lowest.{ascending, Lowest, None}
 use Rattle.folds.proofs.Folds.{none_at}
 use Rattle.folds.proofs.Lowest.{lowest_given, none_given}
 use Rattle.steps.specs.declared.Op.{Op}
@@ -17,8 +17,12 @@ use Rattle.steps.specs.declared.Op.TheVariants.{Exit, Barrier, Object, PendingCo
 use Rattle.steps.specs.declared.Step.{Step}
 use Rattle.object.specs.Row.{dead}
 use Rattle.block.specs.declared.Turn.{Turn}
-use Rattle.block.specs.declared.Verdict.{Verdict}
-use Rattle.block.specs.declared.Verdict.TheVariants.{Refused, Accepted}
+use Rattle.std.specs.Prelude.{Ok, Err}
+use Rattle.refusals.specs.declared.Refusal.{Refusal}
+use Rattle.refusals.specs.Refusals.{number, named}
+use Rattle.refusals.proofs.Refusals.{number_names, lowest_named, number_some}
+use Rattle.block.specs.Verdicts.{Verdict, accepted}
+use Rattle.block.specs.Verdicts as said
 use Rattle.block.specs.Tables.{live_of, barrier_at}
 use Rattle.barrier_row.specs.Rows as rows
 use Rattle.block_steps.specs.Steps as barriers
@@ -39,7 +43,7 @@ effect_accepted : (v : View) (w : ℕ) (o : Op) → is_accepted (effect v w o).v
 effect_accepted v w Exit =
     accepted_turn (ltb (barriers.opened (barriers.without v.block w)) 16)
     (barriers.completed (barriers.without v.block w) (barriers.opened (barriers.without v.block w)) (barrier_at (barriers.without v.block w) (barriers.opened (barriers.without v.block w))))
-    (record { verdict = Accepted 0 false 0; block = barriers.without v.block w }) refl refl
+    (record { verdict = accepted 0 false 0; block = barriers.without v.block w }) refl refl
 effect_accepted v w (Barrier k b) =
     let r = rows.arrived_row (barrier_at v.block k) w (call_of b) in
     accepted_turn (rows.completes (live_of v.block) r) (barriers.completed v.block k r) (barriers.goes_on v.block k r w (call_of b).waits) refl refl
@@ -89,31 +93,26 @@ module _ (v : View) (s : Step) where
   does e = of_none (free e)
 
   -- the number of a refusal
-  numbered : (n : ℕ) → (taken v s).verdict ≡ Refused n → (refusal v s ≡ n) × (0 < n)
-  numbered n e =
+  named_number : (refusal v s ≡ 0 → ⊥) → number (named (refusal v s)) ≡ refusal v s
+  unfolding refusal
+  named_number h = lowest_named (lines v s) refl h
+
+  numbered : (r : Refusal) → (taken v s).verdict ≡ Err r → refusal v s ≡ number r
+  numbered r e =
       let h : refusal v s ≡ 0 → ⊥ = λ z. never (accepts z) (ap is_accepted e) in
-      let q : Refused (refusal v s) ≡ Refused n = ap (λ (x : Taken). x.verdict) (sym (of_number h)) ∙ e in
-      let i : refusal v s ≡ n = cc in
-      (i, lt_of_ne i h)
-    where
-      lt_of_ne : refusal v s ≡ n → (refusal v s ≡ 0 → ⊥) → 0 < n
-      lt_of_ne i h = omega (arith, h)
+      let q : said.refused (refusal v s) ≡ Err r = ap (λ (x : Taken). x.verdict) (sym (of_number h)) ∙ e in
+      let i : named (refusal v s) ≡ r = cc in
+      sym (named_number h) ∙ ap number i
 
-  refused_line : (n : ℕ) → (taken v s).verdict ≡ Refused n → Lowest (lines v s) n
+  refused_line : (r : Refusal) → (taken v s).verdict ≡ Err r → Lowest (lines v s) (number r)
   unfolding refusal
-  refused_line n e = let k = numbered n e in (lowest_given (lines v s) goes_up n k.1).0 k.0
+  refused_line r e = (lowest_given (lines v s) goes_up (number r) (number_some r)).0 (numbered r e)
 
-  some : (n : ℕ) → Lowest (lines v s) n → 0 < n
-  unfolding holds
-  some zero w = absurd (let z : ◌≡◌ {A = ℕ} 0 1 = cc w.here in omega arith)
-  some (suc n) w = omega arith
-
-  line_refused : (n : ℕ) → Lowest (lines v s) n → (taken v s).verdict ≡ Refused n
+  line_refused : (r : Refusal) → Lowest (lines v s) (number r) → (taken v s).verdict ≡ Err r
   unfolding refusal
-  line_refused n w =
-      let e = (lowest_given (lines v s) goes_up n (some n w)).1 w in
-      let p = some n w in
-      ap (λ (x : Taken). x.verdict) (of_number (λ z. omega arith)) ∙ ap Refused e
+  line_refused r w =
+      let e = (lowest_given (lines v s) goes_up (number r) (number_some r)).1 w in
+      ap (λ (x : Taken). x.verdict) (of_number (λ z. omega (arith, e, z, number_some r))) ∙ ap said.refused e ∙ ap Err (number_names r)
 
   none_accepted : None (lines v s) → is_accepted (taken v s).verdict ≡ true
   unfolding refusal
@@ -125,18 +124,18 @@ module _ (v : View) (s : Step) where
 
 -- an accepted verdict has no number
 no_number : (v : Verdict) → is_accepted v ≡ true → number_of v ≡ 0
-no_number (Refused n) e = cc
-no_number (Accepted v d r) e = refl
+no_number (Err r) e = cc
+no_number (Ok a) e = refl
 
 pub number_given : NumberGiven
 number_given t s = go (ℕ_discrete (refusal (view_of t s) s) 0)
   where
     go : Dec (refusal (view_of t s) s ≡ 0) → number_of (taken (view_of t s) s).verdict ≡ refusal (view_of t s) s
     go (yes z) = no_number (verdict t s) (accepts (view_of t s) s z) ∙ sym z
-    go (no h) = ap (λ (x : Taken). number_of x.verdict) (of_number (view_of t s) s h)
+    go (no h) = ap (λ (x : Taken). number_of x.verdict) (of_number (view_of t s) s h) ∙ named_number (view_of t s) s h
 
 pub refused_exactly : RefusedExactly
-refused_exactly t s n = (refused_line (view_of t s) s n, line_refused (view_of t s) s n)
+refused_exactly t s r = (refused_line (view_of t s) s r, line_refused (view_of t s) s r)
 
 pub accepted_exactly : AcceptedExactly
 accepted_exactly t s = (accepted_none (view_of t s) s, none_accepted (view_of t s) s)

@@ -8,8 +8,8 @@ use Rattle.steps.specs.declared.Step.{Step}
 use Rattle.object.specs.declared.Object as object
 use Rattle.object.specs.Tokens.{pending_in}
 use Rattle.object.specs.Row as row
-use Rattle.block.specs.declared.Verdict.{Verdict}
-use Rattle.block.specs.declared.Verdict.TheVariants.{Refused, Accepted}
+use Rattle.block.specs.Verdicts.{Verdict, accepted}
+use Rattle.block.specs.Verdicts as said
 use Rattle.block.specs.declared.Turn.{Turn}
 use Rattle.block_steps.specs.Steps as barriers
 use Rattle.tables.specs.declared.Taken.{Taken}
@@ -26,15 +26,15 @@ abbrev pub effect : View → ℕ → Op → Taken
 effect v w Exit = block_taken v.object (barriers.exits v.block w)
 effect v w (Barrier k b) = block_taken v.object (barriers.arrives v.block w k (call_of b))
 effect v w (Object a o) = record {
-  verdict = Accepted (row.value_of v.object (slot_of (Object a o)) (act_of o)) (row.ends v.object (act_of o)) 0;
+  verdict = accepted (row.value_of v.object (slot_of (Object a o)) (act_of o)) (row.ends v.object (act_of o)) 0;
   block = v.block;
   object = row.row_after v.object (act_of o);
 }
-effect v w (PendingCount t) = record { verdict = Accepted (pending_in t) false 0; block = v.block; object = v.object }
+effect v w (PendingCount t) = record { verdict = accepted (pending_in t) false 0; block = v.block; object = v.object }
 
 -- a refused step changes nothing
 abbrev pub refused : View → ℕ → Taken
-refused v n = record { verdict = Refused n; block = v.block; object = v.object }
+refused v n = record { verdict = said.refused n; block = v.block; object = v.object }
 
 -- a step over what it sees
 unfoldable pub taken : View → Step → Taken

@@ -1,12 +1,13 @@
 -- What is claimed of every step over whole tables: demands 1 and 2.
 -- Assumes nothing.
-use Rattle.std.specs.Prelude.{◌≡◌, ◌↔◌, true, false, List, ℕ, ◌+◌, get_or}
+use Rattle.std.specs.Prelude.{◌≡◌, ◌↔◌, true, false, List, ℕ, ◌+◌, get_or, Err}
 use Rattle.folds.specs.Lowest.{Lowest, None}
 use Rattle.steps.specs.declared.Op.{Op}
 use Rattle.steps.specs.declared.Op.TheVariants.{Exit, Barrier, Object, PendingCount}
 use Rattle.steps.specs.declared.Step.{Step}
 use Rattle.object.specs.Row.{dead}
-use Rattle.block.specs.declared.Verdict.TheVariants.{Refused}
+use Rattle.refusals.specs.declared.Refusal.{Refusal}
+use Rattle.refusals.specs.Refusals.{number}
 use Rattle.block.specs.declared.Block.{Block}
 use Rattle.block.specs.Tables.{barrier_count, barrier_at, is_idle, live_of}
 use Rattle.block_steps.specs.Steps.{without, opened}
@@ -19,9 +20,9 @@ use Rattle.tables.specs.Effect.{effect, taken, verdict, after, live_after, State
 abbrev pub NumberGiven : Type 0
 NumberGiven = (t : Tables) (s : Step) → number_of (verdict t s) ≡ refusal (view_of t s) s
 
--- a step is refused with n exactly when line n of the table applies and no lower line does
+-- a step is refused with a line exactly when that line of the table applies and no lower line does
 abbrev pub RefusedExactly : Type 0
-RefusedExactly = (t : Tables) (s : Step) (n : ℕ) → (verdict t s ≡ Refused n) ↔ Lowest (lines (view_of t s) s) n
+RefusedExactly = (t : Tables) (s : Step) (r : Refusal) → (verdict t s ≡ Err r) ↔ Lowest (lines (view_of t s) s) (number r)
 
 -- and accepted exactly when no line applies
 abbrev pub AcceptedExactly : Type 0

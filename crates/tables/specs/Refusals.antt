@@ -1,6 +1,6 @@
 -- The refusal table, in document 01's order: a test to each line, false where the step's kind has no such field.
 -- Assumes nothing.
-use Rattle.std.specs.Prelude.{Bool, true, false, not, ◌||◌, List, [], ◌∷◌, ◌++◌, ℕ, ◌%◌, eqb, ltb, drop}
+use Rattle.std.specs.Prelude.{Bool, true, false, not, ◌||◌, Some, None, List, [], ◌∷◌, ◌++◌, ℕ, ◌%◌, eqb, ltb, drop}
 use Rattle.folds.specs.Folds.{Line, lowest}
 use Rattle.steps.specs.declared.BarrierStep.{BarrierStep}
 use Rattle.steps.specs.declared.BarrierStep.TheVariants as barrier
@@ -14,7 +14,6 @@ use Rattle.object.specs.declared.Act.{Act}
 use Rattle.object.specs.declared.Act.TheVariants as act
 use Rattle.object.specs.Tokens.{too_large}
 use Rattle.object.specs.Row as row
-use Rattle.block.specs.declared.Threads.TheVariants.{All, Given}
 use Rattle.block.specs.declared.Call.{Call}
 use Rattle.barrier_row.specs.Rows.{bad_threads, clashes}
 use Rattle.block_steps.specs.Steps.{no_such_warp, not_ready, no_such_barrier, already_arrived}
@@ -26,11 +25,11 @@ use Rattle.tables.specs.Tables.{object_size, last_address, View, seen_by, slot_o
 
 -- a named-barrier step as the arrival that it is
 abbrev pub call_of : BarrierStep → Call
-call_of barrier.SyncAll = calls.sync_call All
-call_of (barrier.Sync t) = calls.sync_call (Given t)
+call_of barrier.SyncAll = calls.sync_call None
+call_of (barrier.Sync t) = calls.sync_call (Some t)
 call_of (barrier.Arrive t) = calls.arrive_call t
-call_of (barrier.RedAll s m) = calls.red_call s All m
-call_of (barrier.Red s t m) = calls.red_call s (Given t) m
+call_of (barrier.RedAll s m) = calls.red_call s None m
+call_of (barrier.Red s t m) = calls.red_call s (Some t) m
 
 -- an object step as the act that it is: arrive and drop over count, drop, expectation and noComplete; with an attached expect the count is 1
 abbrev pub act_of : ObjectStep → Act

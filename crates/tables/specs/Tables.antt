@@ -1,6 +1,7 @@
 -- Whole tables, when they are sound, and the tally: document 01, "The tables".
 -- Assumes nothing.
-use Rattle.std.specs.Prelude.{Bool, true, false, cond, ◌&&◌, List, ℕ, ◌+◌, ◌/◌, eqb, length, get_or, replicate}
+use Rattle.std.specs.Prelude.{Bool, true, false, cond, ◌&&◌, List, ℕ, ◌+◌, ◌/◌, eqb, length, get_or, replicate, Ok, Err}
+use Rattle.refusals.specs.Refusals.{number}
 use Rattle.folds.specs.Folds.{all}
 use Rattle.steps.specs.declared.Op.{Op}
 use Rattle.steps.specs.declared.Op.TheVariants as op
@@ -10,8 +11,7 @@ use Rattle.object.specs.Tokens.{slots}
 use Rattle.object.specs.Row.{dead}
 use Rattle.object.specs.Soundness.{sound_row}
 use Rattle.block.specs.declared.Block.{Block}
-use Rattle.block.specs.declared.Verdict.{Verdict}
-use Rattle.block.specs.declared.Verdict.TheVariants.{Refused, Accepted}
+use Rattle.block.specs.Verdicts.{Verdict}
 use Rattle.block.specs.Tables.{barrier_count, warp_at, barrier_at, live_of, sound_block, fresh_block}
 use Rattle.barrier_row.specs.Rows.{largest}
 use Rattle.block_steps.specs.Changes.{first_opening}
@@ -92,26 +92,26 @@ seen_by v s = seen_of v.sound (live_of v.block) v.block s
 
 -- its number, 0 where it is accepted
 abbrev pub number_of : Verdict → ℕ
-number_of (Refused n) = n
-number_of (Accepted v d r) = 0
+number_of (Err r) = number r
+number_of (Ok a) = 0
 
 -- whether it is accepted
 abbrev pub is_accepted : Verdict → Bool
-is_accepted (Refused n) = false
-is_accepted (Accepted v d r) = true
+is_accepted (Err r) = false
+is_accepted (Ok a) = true
 
 -- every refusal answers value 0, done 0, released none
 abbrev pub value_of : Verdict → ℕ
-value_of (Refused n) = 0
-value_of (Accepted v d r) = v
+value_of (Err r) = 0
+value_of (Ok a) = a.value
 
 abbrev pub done_of : Verdict → Bool
-done_of (Refused n) = false
-done_of (Accepted v d r) = d
+done_of (Err r) = false
+done_of (Ok a) = a.done
 
 abbrev pub released_of : Verdict → ℕ
-released_of (Refused n) = 0
-released_of (Accepted v d r) = r
+released_of (Err r) = 0
+released_of (Ok a) = a.released
 
 -- ---- the tally
 
@@ -121,8 +121,8 @@ counted n = cond (eqb n largest) n (n + 1)
 
 -- each step adds one to the accepted or the refused number
 abbrev pub tallied : Tally → Verdict → Tally
-tallied y (Refused n) = record { accepted = y.accepted; refused = counted y.refused }
-tallied y (Accepted v d r) = record { accepted = counted y.accepted; refused = y.refused }
+tallied y (Err r) = record { accepted = y.accepted; refused = counted y.refused }
+tallied y (Ok a) = record { accepted = counted y.accepted; refused = y.refused }
 
 abbrev pub fresh_tally : Tally
 fresh_tally = record { accepted = 0; refused = 0 }

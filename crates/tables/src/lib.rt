@@ -2,9 +2,8 @@
 #![tactic(auto)]
 
 ghost use Rattle.std.specs.Prelude.{◌≡◌};
-ghost use Rattle.tables.specs.Tables.{slot_of, counted, tallied};
+ghost use Rattle.tables.specs.Tables.{slot_of, tallied};
 
-use barrier_row::LARGEST;
 use block::{Barrier, Block, Verdict, Warp};
 use object::Object;
 use steps::Op;
@@ -52,32 +51,18 @@ pub fn slot_of(op: Op) -> usize
     }
 }
 
-// One more; a number at 4,294,967,295 stays there.
-fn one_more(n: u32) -> u32
-    ensures { result ≡ counted n }
-{
-    if n == LARGEST {
-        return n;
-    }
-    n + 1
-}
-
-// The tally after a step with this verdict.
+// The tally after a step with this verdict: one more; a number at 4,294,967,295 stays there.
 pub fn add(t: Tally, v: Verdict) -> Tally
     ensures { result ≡ tallied t v }
 {
     match v {
-        Verdict::Refused(_) => Tally {
-            accepted: t.accepted,
-            refused: one_more(t.refused),
+        Err(_) => Tally {
+            refused: t.refused.saturating_add(1),
+            ..t
         },
-        Verdict::Accepted {
-            value: _,
-            done: _,
-            released: _,
-        } => Tally {
-            accepted: one_more(t.accepted),
-            refused: t.refused,
+        Ok(_) => Tally {
+            accepted: t.accepted.saturating_add(1),
+            ..t
         },
     }
 }

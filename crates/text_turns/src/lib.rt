@@ -1,22 +1,19 @@
 // The lines of a whole trace, laid one after the other into a buffer that the caller lends.
 #![tactic(auto)]
 
-ghost use Rattle.std.specs.Prelude.{◌≡◌, ◌+◌, ◌<◌, get_or};
+ghost use Rattle.std.specs.Prelude.{◌≡◌, ◌+◌, ◌<◌, get_or, Some, None};
 ghost use Rattle.fields.specs.Num.{laid};
 ghost use Rattle.lines.specs.Lines.{most_line, line_of};
 ghost use Rattle.trace_text.specs.Text.{trace_refusal, number_in};
-ghost use Rattle.text_turns.specs.Buffer.{first_after, line_laid, summed, Begun, LastLaid, Lays};
+ghost use Rattle.text_turns.specs.Buffer.{first_after, line_laid, summed, Begun, LastLaid, RefusedLaid, Lays};
 
-use barrier_row::LARGEST;
 use block::{Block, Verdict};
 use lent_run::Checked;
 use object::{Object, SLOTS};
+use refusals::Refusal;
+use steps::Cursor;
 use tables::Tally;
-use trace_look::Laying;
 use trace_text::{Counts, First};
-
-// The number of a line stops at 4,294,967,295.
-const LAST_NUMBER: u64 = LARGEST as u64;
 
 // What a text tells: its length, and its numbers.
 #[derive(Clone, Copy)]
@@ -25,89 +22,88 @@ pub struct Summary {
     pub counts: Counts,
 }
 
-// The number of the next line, after so many accepted and refused.
+// A text that is being laid: the place after what is laid, and the first refused line of what is.
+#[derive(Clone, Copy)]
+struct Laying {
+    at: usize,
+    first: Option<First>,
+}
+
+// The number of the next line, after so many accepted and refused; it stops at 4,294,967,295.
 fn number_in(lines: Tally) -> u32
     ensures { result ≡ number_in lines }
 {
-    let number = (lines.accepted as u64) + (lines.refused as u64) + 1;
-    if number < LAST_NUMBER {
+    let number = u64::from(lines.accepted) + u64::from(lines.refused) + 1;
+    if number < u64::from(u32::MAX) {
         number as u32
     } else {
-        LARGEST
+        u32::MAX
     }
 }
 
 // The first refused line, after one line more: that one, where it is refused and none was before it.
-fn first_after(first: First, number: u32, v: Verdict) -> First
+fn first_after(first: Option<First>, number: u32, v: Verdict) -> Option<First>
     ensures { result ≡ first_after first number v }
 {
-    match v {
-        Verdict::Refused(n) => {
-            if first.step != 0 {
-                return first;
-            }
-            First {
-                step: number,
-                refusal: n as u32,
-            }
-        }
-        Verdict::Accepted {
-            value: _,
-            done: _,
-            released: _,
-        } => first,
+    match (first, v) {
+        (None, Err(refusal)) => Some(First {
+            step: number,
+            refusal,
+        }),
+        (first, _) => first,
     }
 }
 
 // What a text of this length tells, with so many accepted and refused and this first refused line.
-fn sum_up(length: usize, lines: Tally, first: First) -> Summary
+fn sum_up(length: usize, lines: Tally, first: Option<First>) -> Summary
     ensures { result ≡ summed length lines first }
 {
+    let (step, refusal) = match first {
+        Some(line) => (line.step, u32::from(line.refusal.number())),
+        None => (0, 0),
+    };
     Summary {
         length,
         counts: Counts {
             accepted: lines.accepted,
             refused: lines.refused,
-            step: first.step,
-            refusal: first.refusal,
+            step,
+            refusal,
         },
     }
 }
 
 // The line of a verdict under its number, laid where it fits.
+#[tactic(auto, using(lines::proofs::Lines::line_most))]
 fn lay_line(out: &mut [u8], l: Laying, number: u32, v: Verdict) -> Laying
     requires { l.at + most_line < 18446744073709551616 }
     ensures { (result ≡ line_laid l number v) × (out.new ≡ laid out.old l.at (line_of number v)) }
 {
-    let at = l.at;
-    let cursor = l.cursor;
-    let step = l.step;
-    let first = first_after(l.first, number, v);
+    let length = lines::put_line(&mut *out, l.at, u64::from(number), v);
     Laying {
-        going: l.going,
-        stop: l.stop,
-        at: at + lines::put_line(&mut *out, at, number as u64, v),
-        cursor,
-        step,
-        first,
+        at: l.at + length,
+        first: first_after(l.first, number, v),
     }
 }
 
-// Lays what follows the last step: the line of a 1 or 2, if one was found, and the end line, where so many lines were accepted and refused before; answers what all of the text tells.
-fn lay_last(out: &mut [u8], l: Laying, lines: Tally) -> Summary
-    requires { l.at + (most_line + most_line) < 18446744073709551616 }
-    ensures { LastLaid out.old l lines result out.new }
+// Lays the end line, where so many lines were accepted and refused; answers what all of the text tells.
+#[tactic(auto, using(lines::proofs::Lines::end_most, crate::proofs::Buffer::last_end))]
+fn lay_end(out: &mut [u8], l: Laying, lines: Tally) -> Summary
+    requires { l.at + most_line < 18446744073709551616 }
+    ensures { LastLaid out.old l lines None result out.new }
 {
-    if l.stop != 0 {
-        let stop = Verdict::Refused(l.stop);
-        let number = number_in(lines);
-        let at = l.at + lines::put_line(&mut *out, l.at, number as u64, stop);
-        let all = tables::add(lines, stop);
-        let length = at + lines::put_end(&mut *out, at, all.accepted, all.refused);
-        return sum_up(length, all, first_after(l.first, number, stop));
-    }
     let length = l.at + lines::put_end(&mut *out, l.at, lines.accepted, lines.refused);
     sum_up(length, lines, l.first)
+}
+
+// Lays the line of a 1 or 2 that was found in place of a step, and the end line, where so many lines were accepted and refused before; answers what all of the text tells.
+#[tactic(auto, using(lines::proofs::Lines::line_most, crate::proofs::Buffer::last_stop))]
+fn lay_stop(out: &mut [u8], l: Laying, lines: Tally, refusal: Refusal) -> Summary
+    requires { l.at + (most_line + most_line) < 18446744073709551616 }
+    ensures { LastLaid out.old l lines (Some refusal) result out.new }
+{
+    let laid = lay_line(&mut *out, l, number_in(lines), Err(refusal));
+    lay_end(&mut *out, laid, tables::add(lines, Err(refusal)))
 }
 
 // Lays the lines of the steps, turn by turn, and what follows the last; answers what the text tells. Block, list and tally are lent to each step where they lie, and what is known of them is kept beside them: there is no check. The tally counts the lines too.
@@ -118,23 +114,25 @@ fn lay_turns(
     mut objects: [Object; SLOTS],
     mut tally: Tally,
     mut checked: Checked,
-    mut l: Laying,
 ) -> Summary
-    requires { Begun trace.now block objects tally checked l }
+    requires { Begun trace.now block objects tally checked }
     ensures { Lays trace.now out.old result out.new }
 {
+    let mut cursor = Cursor { at: 1 };
+    let mut laying = Laying { at: 0, first: None };
     loop {
-        l = trace_look::look(trace, l);
-        if !l.going {
-            break;
+        match trace_look::look(trace, cursor) {
+            None => return lay_end(out, laying, tally),
+            Some(Err(refusal)) => return lay_stop(out, laying, tally, refusal),
+            Some(Ok((step, next))) => {
+                let number = number_in(tally);
+                let gone = lent_run::go_on(&mut block, &mut objects, &mut tally, checked, step);
+                laying = lay_line(&mut *out, laying, number, gone.verdict);
+                checked = gone.checked;
+                cursor = next;
+            }
         }
-        let number = number_in(tally);
-        let gone = lent_run::go_on(&mut block, &mut objects, &mut tally, checked, l.step);
-        checked = gone.checked;
-        let laid = lay_line(&mut *out, l, number, gone.verdict);
-        l = laid;
     }
-    lay_last(&mut *out, l, tally)
 }
 
 // Lays the lines of the steps and the end line, each where it fits; answers what the text tells.
@@ -142,39 +140,32 @@ fn lay_steps(trace: &[u8], out: &mut [u8], warps: u8) -> Summary
     requires { (trace_refusal trace.now ≡ 0) × (warps ≡ get_or trace.now 0 0) }
     ensures { Lays trace.now out.old result out.new }
 {
-    let t = owned::fresh_owned(warps);
-    let state = t.state;
-    let block = state.block;
-    let objects = state.objects;
-    let tally = state.tally;
-    lay_turns(
-        trace,
-        &mut *out,
-        block,
-        objects,
-        tally,
-        lent_run::fresh_checked(warps),
-        trace_look::first_place(),
-    )
+    let state = owned::fresh_owned(warps).state;
+    let checked = lent_run::fresh_checked(warps);
+    lay_turns(trace, out, state.block, state.objects, state.tally, checked)
+}
+
+// Lays the line of a trace that is refused before its steps, and the end line; answers what the text tells.
+#[tactic(auto, using(lines::proofs::Lines::line_most, lines::proofs::Lines::end_most, crate::proofs::Buffer::refused_laid))]
+fn lay_refused(out: &mut [u8], refusal: Refusal) -> Summary
+    ensures { RefusedLaid out.old refusal result out.new }
+{
+    let at = lines::put_line(&mut *out, 0, 0, Err(refusal));
+    let length = at + lines::put_end(&mut *out, at, 0, 1);
+    let lines = Tally {
+        accepted: 0,
+        refused: 1,
+    };
+    let first = First { step: 0, refusal };
+    sum_up(length, lines, Some(first))
 }
 
 // Lays the lines of a trace's text one after the other, each where it fits; answers the length of the text and its numbers.
 pub fn lay_text(trace: &[u8], out: &mut [u8]) -> Summary
     ensures { Lays trace.now out.old result out.new }
 {
-    let n = trace_look::trace_refusal(trace);
-    if n != 0 {
-        let at = lines::put_line(&mut *out, 0, 0, Verdict::Refused(n));
-        let length = at + lines::put_end(&mut *out, at, 0, 1);
-        let lines = Tally {
-            accepted: 0,
-            refused: 1,
-        };
-        let first = First {
-            step: 0,
-            refusal: n as u32,
-        };
-        return sum_up(length, lines, first);
+    match trace_look::trace_refusal(trace) {
+        Err(refusal) => lay_refused(out, refusal),
+        Ok(()) => lay_steps(trace, out, trace[0]),
     }
-    lay_steps(trace, &mut *out, trace[0])
 }

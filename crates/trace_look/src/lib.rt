@@ -2,98 +2,42 @@
 #![tactic(auto)]
 
 ghost use Rattle.std.specs.Prelude.{◌≡◌};
-ghost use Rattle.trace_text.specs.Text.{trace_refusal};
-ghost use Rattle.trace_look.specs.Places.{first_place, looked};
+ghost use Rattle.refusals.specs.Refusals.{judged};
+ghost use Rattle.trace_text.specs.Text.{trace_lines};
+ghost use Rattle.trace_look.specs.Places.{looked};
 
 use block::MOST_WARPS;
-use steps::{Cursor, Op, Read, Step};
-use trace_text::First;
+use refusals::Refusal;
+use steps::{Cursor, Step};
 
 // A trace has at most 65,536 bytes.
 pub const MOST_BYTES: usize = 65536;
 
-// A text that is being laid: whether a step was found at the run's place, else why the run stops there, 1, 2 or 0 where no byte is left; the place after what is laid; the place of the next step; the step that was found; the first refused line of those that are laid.
-#[derive(Clone, Copy)]
-pub struct Laying {
-    pub going: bool,
-    pub stop: u8,
-    pub at: usize,
-    pub cursor: Cursor,
-    pub step: Step,
-    pub first: First,
-}
-
-// Why a trace is refused before its steps; 0 where it is not.
-pub fn trace_refusal(trace: &[u8]) -> u8
-    ensures { result ≡ trace_refusal trace.now }
+// Refuses a trace before its steps.
+#[tactic(auto, unfolding(folds::specs::Folds::lowest))]
+pub fn trace_refusal(trace: &[u8]) -> Result<(), Refusal>
+    ensures { result ≡ judged (trace_lines trace.now) }
 {
     if MOST_BYTES < trace.len() {
-        return 21;
+        return Err(Refusal::TooLong);
     }
     if trace.len() == 0 {
-        return 2;
+        return Err(Refusal::TooFewBytes);
     }
     let warps = trace[0];
     if (warps == 0) | (MOST_WARPS < warps) {
-        return 4;
+        return Err(Refusal::NoSuchWarp);
     }
-    0
+    Ok(())
 }
 
-// A text of which nothing is laid, at the first step.
-pub fn first_place() -> Laying
-    ensures { result ≡ first_place }
+// What stands at a place: nothing where no byte is left, else a step with the cursor after it, or a 1 or 2.
+#[tactic(auto, unfolding(crate::specs::Places::looked))]
+pub fn look(trace: &[u8], cursor: Cursor) -> Option<Result<(Step, Cursor), Refusal>>
+    ensures { result ≡ looked trace.now cursor.at }
 {
-    Laying {
-        going: true,
-        stop: 0,
-        at: 0,
-        cursor: Cursor { at: 1 },
-        step: Step {
-            warp: 0,
-            op: Op::Exit,
-        },
-        first: First {
-            step: 0,
-            refusal: 0,
-        },
-    }
-}
-
-// Reads what stands at the run's place: a step, a 1 or 2, or nothing more.
-pub fn look(trace: &[u8], l: Laying) -> Laying
-    ensures { result ≡ looked trace.now l }
-{
-    let at = l.at;
-    let cursor = l.cursor;
-    let step = l.step;
-    let first = l.first;
     if trace.len() <= cursor.at {
-        return Laying {
-            going: false,
-            stop: 0,
-            at,
-            cursor,
-            step,
-            first,
-        };
+        return None;
     }
-    match cursor.read(trace) {
-        Read::Found(found, next) => Laying {
-            going: true,
-            stop: 0,
-            at,
-            cursor: next,
-            step: found,
-            first,
-        },
-        Read::Refused(n) => Laying {
-            going: false,
-            stop: n,
-            at,
-            cursor,
-            step,
-            first,
-        },
-    }
+    Some(cursor.read(trace))
 }

@@ -14,11 +14,13 @@ use Rattle.block.specs.Tables.{sound_block}
 use Rattle.tables.specs.Tables.{fresh_tally}
 use Rattle.tables.specs.Refusals.{refusal}
 use Rattle.tables.specs.Effect.{taken, State, next, run, verdicts}
+use Rattle.refusals.specs.Refusals.{named}
 use Rattle.digits.specs.Digits.{decimal}
 use Rattle.lines.specs.Lines.{line_of, end_of}
 use Rattle.trace_text.specs.Run.{steps_from, taking, fresh_state, run_of}
-use Rattle.trace_text.specs.Text.{trace_refusal, lines_of, last_of, end_in, text_lines, joined, text_of, room_for, numbered_lines, tally_of}
-use Rattle.trace_text.specs.Laws.{MoreChangesNothing, counted_in, TallyCountsLines, printed, NumbersPrinted, RoomIsEnough, WholeCase, CountsCase}
+use Rattle.refusals.proofs.Refusals.{lowest_named}
+use Rattle.trace_text.specs.Text.{trace_lines, trace_refusal, lines_of, last_of, end_in, text_lines, joined, text_of, room_for, numbered_lines, tally_of}
+use Rattle.trace_text.specs.Laws.{MoreChangesNothing, RefusalNamed, counted_in, TallyCountsLines, printed, NumbersPrinted, RoomIsEnough, WholeCase, CountsCase}
 use Rattle.trace_text.proofs.Run.{enough, steps_most, verdict_each}
 use Rattle.trace_text.proofs.Text.{begins, lines_refused, lines_run, numbered_refused, numbered_run, tally_refused, tally_run, run_printed, joined_append, lines_most, refused_most, last_most}
 
@@ -32,6 +34,10 @@ counts_case = refl
 
 pub more_changes_nothing : MoreChangesNothing
 more_changes_nothing s most h = ap (taking (fresh_state (get_or s 0 0))) (enough most (length s) s 1 (omega arith) (omega arith))
+
+pub refusal_named : RefusalNamed
+unfolding trace_refusal
+refusal_named s some = lowest_named (trace_lines s) refl some
 
 pub tally_counts_lines : TallyCountsLines
 tally_counts_lines most s x at = counts x (steps_from most s at).steps
@@ -65,4 +71,4 @@ room_is_enough s = refused (trace_refusal s) refl
         let last = last_of r.state.tally r.stop in
         rw (lines_run s e, min-eq_left (begins s e).short)
         (omega (arith, joined_append lines last, lines_most fresh_tally r.verdicts, last_most r.state.tally r.stop, verdict_each (fresh_state (get_or s 0 0)) steps, steps_most (length s) s 1))
-    refused (suc n) e = rw (lines_refused s (λ z. omega arith), e) (omega (arith, refused_most (suc n)))
+    refused (suc n) e = rw (lines_refused s (λ z. omega arith), e) (omega (arith, refused_most (named (suc n))))

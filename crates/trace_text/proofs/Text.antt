@@ -1,7 +1,7 @@
 -- Laws of the lines of a trace, and of how long they are.
 -- Assumes nothing.
 use mathlib.Core.Path.{◌≡◌, refl, sym, ap, ◌∙◌}
-use mathlib.Core.Bool.{Bool, true, false, cond, ◌||◌}
+use mathlib.Core.Bool.{false, ◌||◌}
 use mathlib.Core.List.{List, [], ◌∷◌, ◌++◌}
 use Prim.Native.Nat.{ℕ, ◌+◌, ◌*◌, ◌≤◌, ◌<◌}
 use native.Mathlib.Omega.{arith}
@@ -11,8 +11,11 @@ use lib.Dec.{eqb, ltb}
 use lib.ListN.{length, length-append, get_or}
 use Rattle.folds.specs.Folds.{lowest}
 use Rattle.folds.proofs.Folds.{none_at}
-use Rattle.block.specs.declared.Verdict.{Verdict}
-use Rattle.block.specs.declared.Verdict.TheVariants.{Refused}
+use Rattle.std.specs.Prelude.{Option, Some, None, Err}
+use Rattle.refusals.specs.declared.Refusal.{Refusal}
+use Rattle.refusals.specs.declared.Refusal.TheVariants.{TooLong}
+use Rattle.refusals.specs.Refusals.{named}
+use Rattle.block.specs.Verdicts.{Verdict}
 use Rattle.block.specs.Tables.{most_warps}
 use Rattle.tables.specs.declared.Tally.{Tally}
 use Rattle.tables.specs.Tables.{tallied, fresh_tally}
@@ -25,7 +28,7 @@ use Rattle.trace_text.specs.Laws.{printed}
 -- ---- a trace that is refused before its steps, and one that is not
 
 module _ (s : List ℕ) where
-  pub lines_refused : (trace_refusal s ≡ 0 → ⊥) → text_lines s ≡ refused_lines (trace_refusal s)
+  pub lines_refused : (trace_refusal s ≡ 0 → ⊥) → text_lines s ≡ refused_lines (named (trace_refusal s))
   unfolding text_lines
   lines_refused h = rw (ne_eqb (trace_refusal s) 0 h)
 
@@ -33,7 +36,7 @@ module _ (s : List ℕ) where
   unfolding text_lines
   lines_run e = rw e
 
-  pub numbered_refused : (trace_refusal s ≡ 0 → ⊥) → numbered_lines s ≡ record { number = 0; verdict = Refused (trace_refusal s) } ∷ []
+  pub numbered_refused : (trace_refusal s ≡ 0 → ⊥) → numbered_lines s ≡ record { number = 0; verdict = Err (named (trace_refusal s)) } ∷ []
   unfolding numbered_lines
   numbered_refused h = rw (ne_eqb (trace_refusal s) 0 h)
 
@@ -50,11 +53,11 @@ module _ (s : List ℕ) where
   tally_run e = rw e
 
   -- one that is too long, whatever its bytes are
-  pub text_long : most_bytes < length s → text_of s ≡ joined (refused_lines 21)
+  pub text_long : most_bytes < length s → text_of s ≡ joined (refused_lines TooLong)
   unfolding trace_refusal lowest text_of
   text_long h =
       let refused : trace_refusal s ≡ 21 = rw (lt-ltb most_bytes (length s) h) in
-      ap joined (lines_refused (λ z. omega (arith, refused)) ∙ ap refused_lines refused)
+      ap joined (lines_refused (λ z. omega (arith, refused)) ∙ ap (λ (n : ℕ). refused_lines (named n)) refused)
 
 -- what holds of one that is not refused
 pub record Begins (s : List ℕ) : Type 0 where
@@ -71,14 +74,11 @@ begins s e =
 
 -- ---- the numbered lines are those that are printed
 
-pub run_printed : (y x : Tally) (n : ℕ) (vs : List Verdict) → lines_of y vs ++ last_of x n ≡ printed (numbered_of y vs ++ stop_of x n) ++ (end_in (end_tally x n) ∷ [])
-run_printed y x n [] = either (eqb n 0)
-  where
-    either : (b : Bool) → cond b (end_in x ∷ []) (line_of (number_in x) (Refused n) ∷ end_in (tallied x (Refused n)) ∷ [])
-        ≡ printed (cond b [] (record { number = number_in x; verdict = Refused n } ∷ [])) ++ (end_in (cond b x (tallied x (Refused n))) ∷ [])
-    either true = refl
-    either false = refl
-run_printed y x n (v ∷ vs) = ap (λ (ws : List (List ℕ)). line_of (number_in y) v ∷ ws) (run_printed (tallied y v) x n vs)
+pub run_printed : (y x : Tally) (why : Option Refusal) (vs : List Verdict)
+    → lines_of y vs ++ last_of x why ≡ printed (numbered_of y vs ++ stop_of x why) ++ (end_in (end_tally x why) ∷ [])
+run_printed y x None [] = refl
+run_printed y x (Some r) [] = refl
+run_printed y x why (v ∷ vs) = ap (λ (ws : List (List ℕ)). line_of (number_in y) v ∷ ws) (run_printed (tallied y v) x why vs)
 
 -- ---- how long the lines are
 
@@ -94,18 +94,11 @@ lines_most y [] = omega arith
 lines_most y (v ∷ vs) =
     omega (arith, length-append (line_of (number_in y) v) (joined (lines_of (tallied y v) vs)), line_most (number_in y) v, lines_most (tallied y v) vs)
 
-pub refused_most : (r : ℕ) → length (joined (refused_lines r)) ≤ 2 * most_line
-refused_most r = omega (arith, two_joined (line_of 0 (Refused r)) (end_of 0 1), line_most 0 (Refused r), end_most 0 1)
+pub refused_most : (r : Refusal) → length (joined (refused_lines r)) ≤ 2 * most_line
+refused_most r = omega (arith, two_joined (line_of 0 (Err r)) (end_of 0 1), line_most 0 (Err r), end_most 0 1)
 
-pub last_most : (y : Tally) (n : ℕ) → length (joined (last_of y n)) ≤ 2 * most_line
-last_most y n = either (eqb n 0)
-  where
-    z : Tally
-    z = tallied y (Refused n)
-
-    w : List ℕ
-    w = line_of (number_in y) (Refused n)
-
-    either : (b : Bool) → length (joined (cond b (end_in y ∷ []) (w ∷ end_in z ∷ []))) ≤ 2 * most_line
-    either true = omega (arith, length-append (end_in y) [], end_most y.accepted y.refused)
-    either false = omega (arith, two_joined w (end_in z), line_most (number_in y) (Refused n), end_most z.accepted z.refused)
+pub last_most : (y : Tally) (why : Option Refusal) → length (joined (last_of y why)) ≤ 2 * most_line
+last_most y None = omega (arith, length-append (end_in y) [], end_most y.accepted y.refused)
+last_most y (Some r) =
+    let z = tallied y (Err r) in
+    omega (arith, two_joined (line_of (number_in y) (Err r)) (end_in z), line_most (number_in y) (Err r), end_most z.accepted z.refused)

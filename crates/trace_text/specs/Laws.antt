@@ -1,17 +1,22 @@
 -- What is claimed of the text of a trace.
 -- Assumes nothing.
 use Rattle.std.specs.Prelude.{◌≡◌, List, [], ◌∷◌, ◌++◌, ℕ, ◌≤◌, length, get_or}
-use Rattle.block.specs.declared.Verdict.{Verdict}
+use Rattle.block.specs.Verdicts.{Verdict}
 use Rattle.tables.specs.declared.Tally.{Tally}
 use Rattle.tables.specs.Tables.{tallied}
 use Rattle.tables.specs.Effect.{State}
 use Rattle.trace_text.specs.Run.{run_from, fresh_state, run_of}
 use Rattle.lines.specs.Lines.{line_of}
-use Rattle.trace_text.specs.Text.{end_in, text_lines, text_of, room_for, Numbered, numbered_lines, tally_of, counts_of}
+use Rattle.refusals.specs.Refusals.{number, named}
+use Rattle.trace_text.specs.Text.{trace_refusal, end_in, text_lines, text_of, room_for, Numbered, numbered_lines, tally_of, counts_of}
 
 -- as many steps as there are bytes are enough: more that may be read change nothing
 abbrev pub MoreChangesNothing : Type 0
 MoreChangesNothing = (s : List ℕ) (most : ℕ) → length s ≤ most → run_from most s (fresh_state (get_or s 0 0)) 1 ≡ run_of s
+
+-- the number that is printed of a trace refused before its steps is that of the line that refuses it
+abbrev pub RefusalNamed : Type 0
+RefusalNamed = (s : List ℕ) → (trace_refusal s ≡ 0 → ⊥) → number (named (trace_refusal s)) ≡ trace_refusal s
 
 -- so many lines, and those of these verdicts
 abbrev pub counted_in : Tally → List Verdict → Tally

@@ -1,49 +1,49 @@
 -- A run over a trace: its steps are read one after the other and taken. What is printed is made of it.
 -- Assumes nothing.
-use Rattle.std.specs.Prelude.{cond, List, [], ◌∷◌, ℕ, zero, suc, leb, length, get_or}
+use Rattle.std.specs.Prelude.{cond, List, [], ◌∷◌, ℕ, zero, suc, leb, length, get_or, Option, Some, None, Result, Ok, Err}
+use Rattle.refusals.specs.declared.Refusal.{Refusal}
 use Rattle.steps.specs.declared.Step.{Step}
-use Rattle.steps.specs.declared.Read.{Read}
-use Rattle.steps.specs.declared.Read.TheVariants as read
+use Rattle.steps.specs.declared.Cursor.{Cursor}
 use Rattle.steps.specs.Step.{read_at}
-use Rattle.block.specs.declared.Verdict.{Verdict}
+use Rattle.block.specs.Verdicts.{Verdict}
 use Rattle.tables.specs.Tables.{fresh_tables, fresh_tally}
 use Rattle.tables.specs.Effect.{State, run, verdicts}
 
 -- ---- the steps that are read
 
--- the steps from a place on, the place after them, and why no other was read: 0 where no byte is left, else 1 or 2
+-- the steps from a place on, the place after them, and why no other was read: nothing where no byte is left, else 1 or 2
 pub record StepsRead : Type 0 where
   pub steps : List Step
   pub at : ℕ
-  pub stop : ℕ
+  pub stop : Option Refusal
 
 -- none
-abbrev pub no_step : ℕ → ℕ → StepsRead
-no_step at n = record { steps = []; at = at; stop = n }
+abbrev pub no_step : ℕ → Option Refusal → StepsRead
+no_step at why = record { steps = []; at = at; stop = why }
 
 -- one before others
 abbrev pub step_then : Step → StepsRead → StepsRead
 step_then st r = record { steps = st ∷ r.steps; at = r.at; stop = r.stop }
 
 -- what is read at a place: a step, and it goes on after it; or a 1 or 2, and it stops there
-abbrev pub read_on : ℕ → (ℕ → StepsRead) → Read → StepsRead
-read_on at rest (read.Found st c) = step_then st (rest c.at)
-read_on at rest (read.Refused n) = no_step at n
+abbrev pub read_on : ℕ → (ℕ → StepsRead) → Result (Step × Cursor) Refusal → StepsRead
+read_on at rest (Ok (st, c)) = step_then st (rest c.at)
+read_on at rest (Err r) = no_step at (Some r)
 
 -- the steps from a place on; a trace that ends between steps is finished.
 -- The first number is the most steps that are read: as many as there are bytes are always enough
 unfoldable pub steps_from : ℕ → List ℕ → ℕ → StepsRead
-steps_from zero s at = no_step at 0
-steps_from (suc more) s at = cond (leb (length s) at) (no_step at 0) (read_on at (λ place. steps_from more s place) (read_at s at))
+steps_from zero s at = no_step at None
+steps_from (suc more) s at = cond (leb (length s) at) (no_step at None) (read_on at (λ place. steps_from more s place) (read_at s at))
 
 -- ---- the run
 
--- the verdicts of the steps, tables and tally after them, the place reached, and why it stopped there: 0 where no byte is left, else 1 or 2
+-- the verdicts of the steps, tables and tally after them, the place reached, and why it stopped there: nothing where no byte is left, else 1 or 2
 pub record Run : Type 0 where
   pub verdicts : List Verdict
   pub state : State
   pub at : ℕ
-  pub stop : ℕ
+  pub stop : Option Refusal
 
 -- the steps that were read, taken one after the other
 abbrev pub taking : State → StepsRead → Run

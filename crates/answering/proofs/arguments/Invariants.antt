@@ -5,7 +5,4 @@ use Rattle.answering.proofs.arguments.Given as goal
 
 abbrev pub invariant-loop-i : goal.invariant-loop-i
 invariant-loop-i g l =
-    (1 ≤ l.i) × (l.i - 1 ≤ l.count - 1) × (l.written.input ≡ false) × (l.written.files ≡ l.i - 1) × (l.written.all ≡ true)
-
-abbrev pub decreases-loop-i : goal.decreases-loop-i
-decreases-loop-i g l = l.count - l.i
+    (l.i - 1 ≤ l.count - 1) × (l.written.input ≡ false) × (l.written.files ≡ l.i - 1) × (l.written.all ≡ true)

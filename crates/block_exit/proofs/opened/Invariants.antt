@@ -1,5 +1,4 @@
 use mathlib.Core.Path.{◌≡◌}
-use Prim.Native.Nat.{◌≤◌, ◌-◌}
 use lib.ListN.{get_or}
 use Rattle.folds.specs.Folds.{first}
 use Rattle.block.specs.Tables.{idle}
@@ -7,7 +6,4 @@ use Rattle.block_steps.specs.Changes.{opens_for}
 use Rattle.block_exit.proofs.opened.Given as goal
 
 abbrev pub invariant-loop-k : goal.invariant-loop-k
-invariant-loop-k l = (l.k ≤ 16) × (first l.k (λ j. opens_for (get_or l.barriers j idle) l.alive l.w) ≡ l.k)
-
-abbrev pub decreases-loop-k : goal.decreases-loop-k
-decreases-loop-k l = 16 - l.k
+invariant-loop-k l = first l.k (λ j. opens_for (get_or l.barriers j idle) l.alive l.w) ≡ l.k

@@ -4,26 +4,20 @@ use Rattle.folds.proofs.Folds.{all_none, all_more, all_fails, all_end}
 use Rattle.block_sound.proofs.agrees.Goals as goal
 
 pub rows-init : goal.rows-init
-rows-init c = (omega arith, refl, all_none _)
+rows-init c = (refl, all_none _)
+
+pub loop-w-init : goal.loop-w-init
+loop-w-init c = (c.rows.invariant.0, all_none _)
+
+pub loop-w-preserved : goal.loop-w-preserved
+loop-w-preserved c =
+    let same = c.if-not-ok.false in
+    (same, all_more _ _ c.loop-w.invariant.1 (rw (c.has.ensures, c.waits_at.ensures) at same))
 
 pub rows-preserved : goal.rows-preserved
 rows-preserved c =
     let inv = c.loop-w.invariant in
-    (omega arith, inv.1, all_more _ _ c.rows.invariant.2 (all_end _ 32 _ inv.0 c.loop-w-test.false inv.2))
-
-pub loop-w-init : goal.loop-w-init
-loop-w-init c = (omega arith, c.rows.invariant.1, all_none _)
-
-pub loop-w-preserved : goal.loop-w-preserved
-loop-w-preserved c =
-    let inv = c.loop-w.invariant in
-    let same = c.if-not-ok.false in
-    (omega arith, same, all_more _ _ inv.2 (rw (c.has.ensures, c.waits_at.ensures) at same))
-
-pub returns-after-rows : goal.returns-after-rows
-returns-after-rows c =
-    let inv = c.rows.invariant in
-    inv.1 ∙ sym (all_end _ 16 _ inv.0 c.rows-test.false inv.2)
+    (inv.0, all_more _ _ c.rows.invariant.1 (all_end _ 32 _ (omega arith) c.loop-w-test.false inv.1))
 
 pub returns-then-not-ok : goal.returns-then-not-ok
 returns-then-not-ok c =

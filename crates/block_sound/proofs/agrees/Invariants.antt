@@ -1,6 +1,5 @@
 use mathlib.Core.Path.{◌≡◌}
 use mathlib.Core.Bool.{true, beq}
-use Prim.Native.Nat.{◌≤◌, ◌-◌}
 use Rattle.folds.specs.Folds.{all}
 use Rattle.sets.specs.Sets.{has}
 use Rattle.block.specs.Tables.{warp_at, waits_at, agrees_at}
@@ -8,13 +7,7 @@ use Rattle.block_sound.proofs.agrees.Given as goal
 
 abbrev pub invariant-loop-w : goal.invariant-loop-w
 invariant-loop-w l =
-    (l.w ≤ 32) × (l.ok ≡ true) × (all l.w (λ v. beq (has l.barrier.waiting v) (waits_at (warp_at l.b v).status l.k)) ≡ true)
-
-abbrev pub decreases-loop-w : goal.decreases-loop-w
-decreases-loop-w l = 32 - l.w
+    (l.ok ≡ true) × (all l.w (λ v. beq (has l.barrier.waiting v) (waits_at (warp_at l.b v).status l.k)) ≡ true)
 
 abbrev pub invariant-rows : goal.invariant-rows
-invariant-rows l = (l.k ≤ 16) × (l.ok ≡ true) × (all l.k (λ j. all 32 (agrees_at l.b j)) ≡ true)
-
-abbrev pub decreases-rows : goal.decreases-rows
-decreases-rows l = 16 - l.k
+invariant-rows l = (l.ok ≡ true) × (all l.k (λ j. all 32 (agrees_at l.b j)) ≡ true)

@@ -1,28 +1,22 @@
-use mathlib.Core.Path.{refl, ap}
+use mathlib.Core.Path.{refl, sym, ap, ◌∙◌}
 use mathlib.Core.Bool.{Bool, not, ◌&&◌}
-use native.Mathlib.Nat.{le_antisymm}
 use native.Mathlib.Omega.{arith}
 use lib.Dec.{ltb}
 use Rattle.sets.specs.Sets.{set_of}
-use Rattle.sets.proofs.Sets.{set_of_more, set_of_fits}
+use Rattle.sets.proofs.Sets.{set_of_put, set_of_pass}
+use Rattle.block.specs.Tables.{is_exited, warp_at}
+use Rattle.block_sound.proofs.live.Goals.{then-here, else-here}
 use Rattle.block_sound.proofs.live.Goals as goal
 
 pub loop-w-init : goal.loop-w-init
 unfolding set_of
-loop-w-init c = (omega arith, refl)
+loop-w-init c = refl
 
 pub loop-w-preserved : goal.loop-w-preserved
 loop-w-preserved c =
-    let w = c.loop-w.w in
-    let n = c.args.b.warps in (
-      omega arith,
-      rw c.loop-w.invariant.1
-          (set_of_more _ w _ (omega arith) (ap (λ (g : Bool). ltb w n && not g) c.is_exited.ensures)),
-    )
-
--- the new set fits, as the set that it is
-pub overflow_add-set : goal.overflow_add-set
-overflow_add-set c = record { fits = rw (loop-w-preserved c).1 (set_of_fits _ _ (loop-w-preserved c).0) }
-
-pub returns : goal.returns
-returns c = rw (← le_antisymm c.loop-w.invariant.0 c.loop-w-test.false) c.loop-w.invariant.1
+    let n = c.args.b.warps in
+    let e = ap (λ (g : Bool). ltb c.loop-w.w n && not g) c.is_exited.ensures in
+    elim c.if-here.branch [
+      | then-here w ↦ rw (w.set-is, w.put-set.ensures, c.loop-w.invariant) (set_of_put (λ v. ltb v n && not (is_exited (warp_at c.args.b v).status)) c.loop-w.w (omega arith) (sym e ∙ w.if-here.true))
+      | else-here w ↦ rw (w.set-is, c.loop-w.invariant) (set_of_pass (λ v. ltb v n && not (is_exited (warp_at c.args.b v).status)) c.loop-w.w (sym e ∙ w.if-here.false))
+    ]

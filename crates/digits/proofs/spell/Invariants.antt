@@ -2,15 +2,9 @@
 -- The invariant: what is left to store, stored, gives what all of it gives.
 -- Assumes nothing.
 use mathlib.Core.Path.{◌≡◌}
-use Prim.Native.Nat.{◌+◌, ◌≤◌}
-use lib.ListN.{length}
 use lib.Seq.{sets}
 use Rattle.io.specs.Digits.{last_digits}
 use Rattle.digits.proofs.spell.Given as goal
 
 abbrev pub invariant-loop-i : goal.invariant-loop-i
-invariant-loop-i l =
-    (l.i ≤ l.k) × (length l.out ≡ length l.initial.out) × (l.at + l.k ≤ length l.initial.out) × (sets l.out l.at (last_digits l.base l.i l.rest) ≡ sets l.initial.out l.at (last_digits l.base l.k l.n))
-
-abbrev pub decreases-loop-i : goal.decreases-loop-i
-decreases-loop-i l = l.i
+invariant-loop-i l = sets l.out l.at (last_digits l.base l.i l.left) ≡ sets l.initial.out l.at (last_digits l.base l.k l.n)

@@ -1,22 +1,16 @@
--- `fields_writer::put` meets its contract: where the bytes fit, they are stored one by one, and else nothing is.
+-- `fields_writer::put` meets its contract: where the end is past the bytes, or past all places, they do not fit.
 -- Assumes nothing.
-use mathlib.Core.Path.{◌∙◌}
 use native.Mathlib.Omega.{arith}
 use Rattle.fields.specs.Num.{bytes}
-use Rattle.fields.proofs.Num.{length_bytes, laid_fits, laid_short}
+use Rattle.fields.proofs.Num.{length_bytes, laid_short}
 use Rattle.fields_writer.proofs.put.Goals as goal
 
-pub returns-then-out-at : goal.returns-then-out-at
-returns-then-out-at c =
+pub returns-in_default : goal.returns-in_default
+returns-in_default c =
     let a = c.args in
-    laid_short a.out.now a.at (bytes a.width a.v) (omega (arith, length_bytes a.width a.v))
+    laid_short a.out.now a.at (bytes a.width a.v) (omega (arith, length_bytes a.width a.v, c.in_default.ensures))
 
-pub returns-then-out-at-2 : goal.returns-then-out-at-2
-returns-then-out-at-2 c =
+pub returns-else-end-out : goal.returns-else-end-out
+returns-else-end-out c =
     let a = c.args in
-    laid_short a.out.now a.at (bytes a.width a.v) (omega (arith, length_bytes a.width a.v))
-
-pub returns : goal.returns
-returns c =
-    let a = c.args in
-    c.put_in.ensures ∙ laid_fits a.out.now a.at (bytes a.width a.v) (omega (arith, length_bytes a.width a.v))
+    laid_short a.out.now a.at (bytes a.width a.v) (omega (arith, length_bytes a.width a.v, c.in-Some.ensures))

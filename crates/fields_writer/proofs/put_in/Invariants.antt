@@ -1,15 +1,11 @@
--- `fields_writer::put_in` meets its contract. The invariant: what is left to store, stored, gives what all of it gives.
+-- `fields_writer::put_in` meets its contract. The invariant: the bytes that are laid, and those of what is left.
 -- Assumes nothing.
-use Prim.Native.Nat.{◌+◌, ◌-◌, ◌≤◌}
+use Prim.Native.Nat.{◌-◌}
 use mathlib.Core.Path.{◌≡◌}
-use lib.ListN.{length}
-use lib.Seq.{sets}
+use mathlib.Core.List.{◌++◌}
+use lib.ListN.{length, take}
 use Rattle.fields.specs.Num.{bytes}
 use Rattle.fields_writer.proofs.put_in.Given as goal
 
-abbrev pub invariant-loop-i : goal.invariant-loop-i
-invariant-loop-i l =
-    (l.i ≤ l.width) × (length l.out ≡ length l.initial.out) × (sets l.out (l.at + l.i) (bytes (l.width - l.i) l.left) ≡ sets l.initial.out l.at (bytes l.width l.v))
-
-abbrev pub decreases-loop-i : goal.decreases-loop-i
-decreases-loop-i l = l.width - l.i
+abbrev pub invariant-loop-b : goal.invariant-loop-b
+invariant-loop-b l = take l.b-index l.field ++ bytes (length l.field - l.b-index) l.left ≡ bytes (length l.field) l.v

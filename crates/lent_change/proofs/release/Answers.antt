@@ -9,15 +9,13 @@ pub returns-then-f-eq0 : goal.returns-then-f-eq0
 returns-then-f-eq0 c = none_released c.args.f c.args.rows.now c.if-f-eq0.true
 
 pub loop-i-init : goal.loop-i-init
-loop-i-init c = record { in_range = omega arith; released = sym (firsts_none (released_row c.args.f) c.args.rows.now 0) }
+loop-i-init c = sym (firsts_none (released_row c.args.f) c.args.rows.now 0)
 
 pub loop-i-preserved : goal.loop-i-preserved
-loop-i-preserved c = record {
-  in_range = omega arith;
-  released = rw (c.released_at.ensures, c.loop-i.invariant.released) (firsts_next (released_row c.args.f) c.args.rows.now c.loop-i.i fresh_warp c.loop-i-test.true);
-}
+loop-i-preserved c =
+    rw (c.released_at.ensures, c.loop-i.invariant) (firsts_next (released_row c.args.f) c.args.rows.now c.loop-i.i fresh_warp c.loop-i-test.true)
 
 pub returns : goal.returns
 returns c =
     let all : c.loop-i.i ≡ length c.args.rows.now = omega arith in
-    c.loop-i.invariant.released ∙ ap (released_to c.args.f c.args.rows.now) all ∙ released_all c.args.f c.args.rows.now
+    c.loop-i.invariant ∙ ap (released_to c.args.f c.args.rows.now) all ∙ released_all c.args.f c.args.rows.now

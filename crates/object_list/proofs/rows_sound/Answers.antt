@@ -1,8 +1,13 @@
--- A wrong length and the first row that is not sound end the check; else each turn has one sound row more.
-use Rattle.std.proofs.Common.{◌≡◌, ℕ, ◌<◌, List, length, get_or, refl, sym, ◌∙◌, arith, eq-eqb}
-use Rattle.std.specs.Prelude.{Bool, true, false, ◌&&◌, eqb}
+-- A test of each row is that of every place of so long a list.
+use Rattle.std.proofs.Common.{◌≡◌, ℕ, ◌≤◌, List, length, get_or, take, ap, sym, ◌∙◌, arith, rules, tests, add-one, eq-eqb}
+use Rattle.std.specs.Prelude.{Bool, zero, suc, ◌&&◌}
+use Rattle.std.specs.List.{list_all}
+use Rattle.std.proofs.lemmas.Iterator.Search.{all_from_yields_List}
+use Rattle.std.proofs.lemmas.Iterator.{YieldsList-from_slice}
+use Rattle.std.proofs.lemmas.List.{take_all}
+use Rattle.std.proofs.lemmas.List.Folds.{list_all_more}
 use Rattle.folds.specs.Folds.{all}
-use Rattle.folds.proofs.Folds.{all_none, all_more, all_fails, all_end}
+use Rattle.folds.proofs.Folds.{all_none, all_step}
 use Rattle.object.specs.declared.Object.{Object}
 use Rattle.object.specs.Row.{dead}
 use Rattle.object.specs.Soundness.{sound_row}
@@ -10,29 +15,20 @@ use Rattle.object.specs.Tokens.{slots}
 use Rattle.tables.specs.Tables.{sound_objects}
 use Rattle.object_list.proofs.rows_sound.Goals as goal
 
-abbrev sound_at : List Object → ℕ → Bool
-sound_at ys i = sound_row (get_or ys i dead)
+sound_to : (ys : List Object) (n : ℕ) → n ≤ length ys → list_all sound_row (take n ys) ≡ all n (λ i. sound_row (get_or ys i dead))
+sound_to ys zero h = sym (all_none _)
+sound_to ys (suc n) h =
+    let sound_at = λ (i : ℕ). sound_row (get_or ys i dead) in
+    let e = list_all_more sound_row ys n dead (omega arith)
+    ∙ ap (λ (b : Bool). b && sound_at n) (sound_to ys n (omega arith)) ∙ sym (all_step sound_at n) in
+    rw add-one at e
 
-unsound_row : (ys : List Object) (i : ℕ) → i < slots → sound_at ys i ≡ false → false ≡ sound_objects ys
-unsound_row ys i k h = both (eqb (length ys) slots) (all slots (sound_at ys)) (all_fails (sound_at ys) slots i k h)
-  where
-    both : (a b : Bool) → b ≡ false → false ≡ a && b
-    both true b e = sym e
-    both false b e = refl
-
-every_row : (ys : List Object) → length ys ≡ slots → all slots (sound_at ys) ≡ true → true ≡ sound_objects ys
-every_row ys len h = rw (eq-eqb (length ys) slots len, h)
-
-pub loop-i-init : goal.loop-i-init
-loop-i-init c = record { in_range = omega arith; sound = all_none _ }
-
-pub returns-then-not-sound : goal.returns-then-not-sound
-returns-then-not-sound c = unsound_row c.args.objects.now c.loop-i.i c.loop-i-test.true (sym c.sound.ensures ∙ c.if-not-sound.true)
-
-pub loop-i-preserved : goal.loop-i-preserved
-loop-i-preserved c = record { in_range = omega arith; sound = all_more _ _ c.loop-i.invariant.sound (sym c.sound.ensures ∙ c.if-not-sound.false) }
+sound_list : (ys : List Object) → length ys ≡ slots → list_all sound_row ys ≡ sound_objects ys
+sound_list ys len =
+    ap (list_all sound_row) (sym (take_all slots ys (omega arith))) ∙ sound_to ys slots (omega arith) ∙ rw (eq-eqb (length ys) slots len)
 
 pub returns : goal.returns
 returns c =
-    every_row c.args.objects.now (omega arith)
-    (all_end (sound_at c.args.objects.now) slots c.loop-i.i c.loop-i.invariant.in_range c.loop-i-test.false c.loop-i.invariant.sound)
+    let ys = c.args.objects.now in
+    all_from_yields_List sound_row _ _ c.all.result c.all.ensures.ran (YieldsList-from_slice ys cc) (λ x b q k. search (rules, tests))
+    ∙ sound_list ys (omega arith)

@@ -1,16 +1,14 @@
 -- `reading::fill` meets its contract: a full buffer holds more than the longest trace.
 -- Assumes nothing.
-use Rattle.std.proofs.Common.{refl, sym, arith, ◌≤◌, length}
-use lib.Seq.{length-take-le}
+use Rattle.std.proofs.Common.{refl, arith}
 use Rattle.reading.proofs.Reading.{long_settled}
 use Rattle.reading.proofs.fill.Goals as goal
 
-pub returns-after-loop-at-clause-fills : goal.returns-after-loop-at-clause-fills
-returns-after-loop-at-clause-fills g c =
-    let within : c.loop-at.at ≤ length c.loop-at.room = omega arith in
-    let taken = length-take-le c.loop-at.at c.loop-at.room within in
+pub returns-in-Ok-clause-fills : goal.returns-in-Ok-clause-fills
+returns-in-Ok-clause-fills g c =
+    let (within, taken) = c.in-Ok.ensures.bound in
     record {
       asked = refl;
-      counts = (within, sym taken);
-      full = λ full. long_settled _ (omega (arith, full, taken));
+      counts = omega (arith, within, taken);
+      full = λ full. long_settled _ (omega (arith, full));
     }

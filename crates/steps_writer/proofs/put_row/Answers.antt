@@ -1,51 +1,50 @@
 -- `steps_writer::put_row` meets its contract. The invariant: what is left of the row, stored, gives what all of it gives.
 -- Assumes nothing.
 use Prim.Native.Nat.{ℕ, ◌+◌, ◌≤◌, ◌<◌}
-use mathlib.Core.Path.{◌≡◌, sym, ap, ◌∙◌}
-use mathlib.Core.List.{[]}
+use mathlib.Core.Path.{◌≡◌, sym, ◌∙◌}
+use mathlib.Core.List.{List, []}
 use native.Mathlib.Omega.{arith}
 use lib.ListN.{length, drop, get_or, drop_of_length-le}
-use lib.Seq.{length-sets}
-use Rattle.fields.specs.Num.{bytes}
+use lib.Seq.{sets}
+use Rattle.fields.specs.Num.{bytes, laid}
 use Rattle.fields.proofs.Num.{length_bytes, laid_fits}
-use Rattle.fields.specs.Row.{total}
+use Rattle.fields.specs.Row.{total, encode}
 use Rattle.fields.proofs.Row.{total_turn, encode_turn}
-use Rattle.steps.specs.Step.{row}
-use Rattle.steps.proofs.Each.{five}
 use Rattle.steps_writer.proofs.put_row.Goals as goal
 
--- the place in the row is one of its five
-in_row : (i k : ℕ) → k < 20 → i < 5 → i < length (row k)
-in_row i k known turn = omega (arith, five k known)
+-- a turn stores the number at its place, and leaves those behind it
+module _ (out ws vs : List ℕ) (at place i n : ℕ) (inside : i < length ws) (fits : place + total (drop i ws) ≡ at + total ws) (room : at + total ws ≤ n) where
+  turn_fits : place + get_or ws i 0 + total (drop (i + 1) ws) ≡ at + total ws
+  turn_fits = omega (arith, total_turn i ws inside)
 
--- what is left of the row, less this field
-less : (w i k : ℕ) → k < 20 → i < 5 → w ≡ get_or (row k) i 0
-    → total (drop i (row k)) ≡ w + total (drop (i + 1) (row k))
-less w i k known turn e = rw e (total_turn i (row k) (in_row i k known turn))
+  turn_within : place + get_or ws i 0 ≤ n
+  turn_within = omega (arith, turn_fits)
 
-pub overflow_add-p : goal.overflow_add-p
-overflow_add-p c =
-    let left = less c.width_of-w.result c.loop-i.i c.args.kind c.requires.0 c.loop-i-test.true c.width_of-w.ensures in
-    omega (arith, left, c.loop-i.invariant.2, c.requires.1, c.well_formed.0.0)
+  turn_left : (out' all : List ℕ) → length out ≡ n → sets out place (encode (drop i ws) (drop i vs)) ≡ all
+      → out' ≡ laid out place (bytes (get_or ws i 0) (get_or vs i 0))
+      → sets out' (place + get_or ws i 0) (encode (drop (i + 1) ws) (drop (i + 1) vs)) ≡ all
+  turn_left out' all long e put =
+      let bs = bytes (get_or ws i 0) (get_or vs i 0) in
+      let after : out' ≡ sets out place bs = put ∙ sym (laid_fits out place bs (omega (arith, turn_within, length_bytes (get_or ws i 0) (get_or vs i 0)))) in
+      rw after (encode_turn out place i ws vs inside) ∙ e
+
+pub overflow_add-place : goal.overflow_add-place
+overflow_add-place c =
+    let a = c.args in
+    let l = c.loop-i in
+    omega (arith, turn_within l.out a.widths a.values a.at l.place l.i (length a.out.now) (omega arith) l.invariant.fits c.requires)
 
 pub loop-i-preserved : goal.loop-i-preserved
 loop-i-preserved c =
-    let l = c.loop-i in
     let a = c.args in
-    let bs = bytes c.width_of-w.result (get_or a.v l.i 0) in
-    let left =
-    less c.width_of-w.result c.loop-i.i c.args.kind c.requires.0 c.loop-i-test.true c.width_of-w.ensures in
-    let fits : l.p + length bs ≤ length l.out =
-    omega (arith, length_bytes c.width_of-w.result (get_or a.v l.i 0), left, l.invariant.1, l.invariant.2, c.requires.1) in
-    let after = c.put.ensures ∙ sym (laid_fits l.out l.p bs fits) in (
-      omega arith,
-      ap length after ∙ length-sets l.out l.p bs ∙ l.invariant.1,
-      omega (arith, left, l.invariant.2),
-      rw (after, c.width_of-w.ensures) (encode_turn l.out l.p l.i (row a.kind) a.v (in_row l.i a.kind c.requires.0 c.loop-i-test.true)) ∙ l.invariant.3,
-    )
+    let l = c.loop-i in
+    record {
+      fits = turn_fits l.out a.widths a.values a.at l.place l.i (length a.out.now) (omega arith) l.invariant.fits c.requires;
+      left = turn_left l.out a.widths a.values a.at l.place l.i (length a.out.now) (omega arith) l.invariant.fits c.requires _ _ l.auto.out l.invariant.left c.put.ensures;
+    }
 
 pub returns : goal.returns
 returns c =
     let l = c.loop-i in
-    let e : drop l.i (row c.args.kind) ≡ [] = drop_of_length-le (row c.args.kind) {i = l.i} (omega (arith, five c.args.kind c.requires.0)) in
-    rw e at l.invariant.3
+    let e : drop l.i c.args.widths ≡ [] = drop_of_length-le c.args.widths {i = l.i} (omega arith) in
+    rw e at l.invariant.left

@@ -11,7 +11,6 @@ use Rattle.lent_run.specs.declared.Checked.{Checked}
 use Rattle.lent_run.specs.Run.{checked_of}
 use Rattle.lent_run_laws.specs.Laws.{Fits}
 use Rattle.lent_run_laws.proofs.Laws.{check_fits}
-use Rattle.trace_look.specs.declared.Laying.{Laying}
 use Rattle.text_turns.proofs.Buffer.{owns_fresh}
 use Rattle.text_turns.proofs.lay_steps.Goals as goal
 
@@ -19,16 +18,11 @@ pub lay_turns-requires : goal.lay_turns-requires
 lay_turns-requires c =
     let s = c.args.trace.now in
     let same = c.requires.1 in
-    let state = c.fresh_owned-t.ensures ∙ ap owned_fresh same in
-    let fresh = ap (λ (t : OwnedTurn). state_in t.state) state ∙ owns_fresh s c.requires.0 in
-    let first = c.first_place.ensures in
+    let fresh = ap (λ (t : OwnedTurn). state_in t.state) (c.fresh_owned.ensures ∙ ap owned_fresh same) ∙ owns_fresh s c.requires.0 in
     record {
       unrefused = c.requires.0;
       fresh = fresh;
-      first = ap (λ (l : Laying). l.cursor.at) first;
-      place = ap (λ (l : Laying). l.at) first;
-      none = ap (λ (l : Laying). l.first) first;
       fits =
-          subst (λ (x : State). Fits c.fresh_checked.result x.tables) (sym fresh)
-          (subst (λ (known : Checked). Fits known (fresh_tables (get_or s 0 0))) (sym (c.fresh_checked.ensures ∙ ap (λ (w : ℕ). checked_of (fresh_tables w)) same)) (check_fits (fresh_tables (get_or s 0 0))));
+          subst (λ (x : State). Fits c.fresh_checked-checked.result x.tables) (sym fresh)
+          (subst (λ (known : Checked). Fits known (fresh_tables (get_or s 0 0))) (sym (c.fresh_checked-checked.ensures ∙ ap (λ (w : ℕ). checked_of (fresh_tables w)) same)) (check_fits (fresh_tables (get_or s 0 0))));
     }

@@ -1,55 +1,46 @@
 -- `text_turns::lay_text` meets its contract: a trace refused before its steps has two lines, and any other is laid step by step.
 -- Assumes nothing.
-use mathlib.Core.Path.{◌≡◌, sym, ap, ◌∙◌}
+use mathlib.Core.Path.{◌≡◌, refl, sym, ap, ◌∙◌}
 use mathlib.Core.List.{List}
-use Prim.Native.Nat.{ℕ, ◌+◌}
+use Prim.Native.Nat.{ℕ}
 use lib.ListN.{length}
 use native.Mathlib.Omega.{arith}
-use Rattle.block.specs.declared.Verdict.TheVariants.{Refused}
-use Rattle.lines.specs.Lines.{line_of, end_of}
-use Rattle.trace_text.specs.Text.{trace_refusal, refused_lines, text_lines, text_of, tally_of, first_refused, counts_in}
-use Rattle.trace_text.proofs.Text.{begins, lines_refused, numbered_refused, tally_refused, two_joined}
+use Rattle.std.specs.Prelude.{Ok, Err, Some}
+use Rattle.refusals.specs.declared.Refusal.{Refusal}
+use Rattle.refusals.specs.Refusals.{judged}
+use Rattle.refusals.proofs.Judged.{passed_none, refused_some, refused_named}
+use Rattle.trace_text.specs.Text.{trace_lines, trace_refusal, refused_lines, text_lines, joined, text_of, tally_of, first_refused, counts_in}
+use Rattle.trace_text.proofs.Text.{begins, lines_refused, numbered_refused, tally_refused}
 use Rattle.text_turns.specs.declared.Summary.{Summary}
-use Rattle.text_turns.proofs.Buffer.{text_small, two_laid}
+use Rattle.text_turns.specs.Buffer.{RefusedLaid, Lays}
 use Rattle.text_turns.proofs.lay_text.Goals as goal
 
--- a trace that is refused with n
-module _ (s : List ℕ) (n : ℕ) (is : n ≡ trace_refusal s) (not_zero : n ≡ 0 → ⊥) where
-  some : trace_refusal s ≡ 0 → ⊥
-  some z = not_zero (is ∙ z)
+-- a trace that passes is not refused before its steps
+passes : (s : List ℕ) → Ok tt ≡ judged (trace_lines s) → trace_refusal s ≡ 0
+unfolding trace_refusal
+passes s e = passed_none _ _ _ e
 
-  -- has two lines
-  are_two : text_lines s ≡ refused_lines n
-  are_two = lines_refused s some ∙ ap refused_lines (sym is)
-
-  -- which are so long
-  two_long : (at k : ℕ) → at ≡ length (line_of 0 (Refused n)) → k ≡ length (end_of 0 1) → at + k ≡ length (text_of s)
-  unfolding text_of
-  two_long at k e f = rw are_two (omega (arith, e, f, two_joined (line_of 0 (Refused n)) (end_of 0 1)))
-
-pub overflow_add-length : goal.overflow_add-length
-overflow_add-length c =
-    let n = c.trace_refusal-n in
-    omega (arith, two_long c.args.trace.now n.result n.ensures c.if-n-ne0.true c.put_line-at.result c.put_end.result c.put_line-at.ensures.0 c.put_end.ensures.0, text_small c.args.trace.now)
-
-pub returns-then-n-ne0 : goal.returns-then-n-ne0
-returns-then-n-ne0 c =
-    let a = c.args in
-    let s = a.trace.now in
-    let n = c.trace_refusal-n.result in
-    let is = c.trace_refusal-n.ensures in
-    let no = c.if-n-ne0.true in
-    let told = c.sum_up.ensures in
+-- one that is refused has two lines
+refused : (s before : List ℕ) (e : Refusal) (r : Summary) (after : List ℕ) → Err e ≡ judged (trace_lines s) → RefusedLaid before e r after → Lays s before r after
+unfolding trace_refusal text_of
+refused s before e r after h last =
+    let some = refused_some _ _ e h in
+    let is = refused_named _ _ e h in
+    let lines : text_lines s ≡ refused_lines e = lines_refused s some ∙ ap refused_lines is in
     record {
-      size = ap (λ (m : Summary). m.length) told ∙ two_long s n is no c.put_line-at.result c.put_end.result c.put_line-at.ensures.0 c.put_end.ensures.0;
+      size = ap (λ (m : Summary). m.length) last.told ∙ ap (λ (ws : List (List ℕ)). length (joined ws)) (sym lines);
       counts =
-          ap (λ (m : Summary). m.counts) told
-          ∙ (λ i. counts_in (sym (tally_refused s (some s n is no)) i) (record { step = 0; refusal = is i }))
-          ∙ (λ i. counts_in (tally_of s) (first_refused (sym (numbered_refused s (some s n is no)) i)));
-      bytes = rw (are_two s n is no) (two_laid a.out.now c.put_line-at.new.out c.put_end.new.out (line_of 0 (Refused n)) (end_of 0 1) c.put_line-at.result c.put_line-at.ensures.0 c.put_line-at.ensures.1 c.put_end.ensures.1);
+          ap (λ (m : Summary). m.counts) last.told
+          ∙ (λ i. counts_in (sym (tally_refused s some) i) (Some (record { step = 0; refusal = sym is i })))
+          ∙ (λ i. counts_in (tally_of s) (first_refused (sym (numbered_refused s some) i)));
+      bytes = rw lines last.bytes;
     }
 
 pub bounds-trace-0 : goal.bounds-trace-0
-bounds-trace-0 c =
-    let e = c.if-n-ne0.false in
-    omega (arith, (begins c.args.trace.now (sym c.trace_refusal-n.ensures ∙ e)).some)
+bounds-trace-0 c = omega (arith, (begins c.args.trace.now (passes c.args.trace.now (sym c.in-Ok.is ∙ c.trace_refusal.ensures))).some)
+
+pub lay_steps-requires : goal.lay_steps-requires
+lay_steps-requires c = (passes c.args.trace.now (sym c.in-Ok.is ∙ c.trace_refusal.ensures), refl)
+
+pub returns-in-Err : goal.returns-in-Err
+returns-in-Err c = refused c.args.trace.now c.args.out.now _ _ _ (sym c.in-Err.is ∙ c.trace_refusal.ensures) c.lay_refused.ensures

@@ -6,12 +6,12 @@ use Rattle.lent_run_laws.specs.Laws.{Fits}
 use Rattle.text_turns.proofs.Buffer.{Left}
 use Rattle.text_turns.proofs.lay_turns.Given as goal
 
-abbrev pub invariant-loop-l : goal.invariant-loop-l
-invariant-loop-l l = record {
+abbrev pub invariant-loop-out : goal.invariant-loop-out
+invariant-loop-out l = record {
   fits : Fits l.checked (tables_of l.block l.objects);
   shaped : Shaped l.block;
-  left : Left l.trace l.initial.out l.out (state_of l.block l.objects l.tally) l.l;
+  left : Left l.trace l.initial.out l.out (state_of l.block l.objects l.tally) l.cursor.at l.laying;
 }
 
-abbrev pub decreases-loop-l : goal.decreases-loop-l
-decreases-loop-l l = length l.trace - l.l.cursor.at
+abbrev pub decreases-loop-out : goal.decreases-loop-out
+decreases-loop-out l = length l.trace - l.cursor.at
