@@ -197,6 +197,9 @@ class Names(Tree):
                                      "docs/requests/W-2.md": "`gone`"})
         self.assertEqual([line.split(":")[0] for line in found], ["docs/DECISIONS.md", "docs/STATEMENTS.md"])
 
+    def test_pages_that_tell_of_names_that_are_gone(self) -> None:
+        self.assertEqual(self.faults(changed={"docs/PORT.md": "`gone`", "docs/DESIGN-PASS.md": "`Gone`"}), [])
+
 
 class Claims(Tree):
     def test_each_claim_has_its_law(self) -> None:

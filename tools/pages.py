@@ -18,7 +18,8 @@ STAND_IN = re.compile(r"(?:[A-Z]|[A-Z]{2,})(?:\..*)?")  # X.antt, FUNCTION: whoe
 
 # Words that look like names of the project and are none, by what they are.
 FOREIGN = {
-    "the language": {"ensures", "if", "requires", "static"},
+    "the language": {"ensures", "for", "if", "match", "requires", "static"},
+    "the language's library": {"get_mut"},
     "the C library": {"read", "write", "SIZE_MAX"},
     "glubotar's commands": {"asm", "explain", "install", "join", "show"},
     "other programs": {"cat", "parallel", "qemu-user", "qemu-x86_64", "rsync", "rt"},
@@ -26,7 +27,7 @@ FOREIGN = {
     "traces of bench": {"barriers", "held", "mixed", "objects", "reds"},
     "rt's folders": {"must-fail"},
     "the kit's crates": {"libc", "os", "std"},
-    "the kit's logic and tools": {"Is", "cc", "owed", "rw", "using"},
+    "the kit's logic and tools": {"Is", "all_from_yields_List", "cc", "err_from_is_err_and", "owed", "rw", "using"},
 }
 FOREIGN_WORDS = set().union(*FOREIGN.values())
 
