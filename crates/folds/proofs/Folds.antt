@@ -97,6 +97,9 @@ first_found p k zero h f e = absurd (not-suc-le-zero h)
 first_found p k (suc n) h f e =
     ⊎_elim (λ q. rw (← q) (first_here p k f e)) (λ l. first_after p k n l (first_found p k n l f e)) (eq-or-lt_of_le (le_of_suc-le-suc h))
 
+pub first_end : (p : ℕ → Bool) (k n : ℕ) → k ≤ n → n ≤ k → first k p ≡ k → k ≡ first n p
+first_end p k n a b h = rw (le_antisymm b a) (sym h)
+
 -- ---- every test of a list
 
 from_first : (a : Bool) (ts : List Bool) → every_from a ts ≡ true → a ≡ true
@@ -114,6 +117,14 @@ unfolding every
 every_at [] e i = refl
 every_at (t ∷ ts) e zero = from_first t ts e
 every_at (t ∷ ts) e (suc i) = from_at t ts e i
+
+-- one test of a list fails, so not every one holds
+pub every_fails : (ts : List Bool) (i : ℕ) → get_or ts i true ≡ false → false ≡ every ts
+every_fails ts i e = go (every ts) refl
+  where
+    go : (t : Bool) → every ts ≡ t → false ≡ t
+    go true q = sym e ∙ every_at ts q i
+    go false q = refl
 
 -- ---- the lowest line that holds
 

@@ -1,3 +1,4 @@
 pub mod Kind
 pub mod Step
+pub mod Fields
 pub mod Laws
