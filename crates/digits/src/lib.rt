@@ -51,21 +51,22 @@ fn spell(out: &mut [u8], at: usize, k: usize, base: u64, n: u64)
     }
 }
 
-// How many decimal digits a number takes. Most values take one, which is told without counting.
+// How many decimal digits a number takes.
 #[tactic(auto, using(crate::proofs::Digits::one_place, crate::proofs::Digits::power_places))]
 fn places_of(n: u64) -> usize
     ensures { result ≡ places n }
 {
-    if n < 10 {
-        return 1;
-    }
-    n.ilog10() as usize + 1
+    if n < 10 { 1 } else { n.ilog10() as usize + 1 }
 }
 
-// Lays a number in decimal from at on, where it fits, and else nothing; answers how many digits it has.
+// Lays a number in decimal from at on, where it fits, and else nothing; answers how many digits it has. Most values have one, which is laid without counting.
 pub fn put_decimal(out: &mut [u8], at: usize, n: u64) -> usize
     ensures { (result ≡ length (decimal n)) × (out.new ≡ laid out.old at (decimal n)) }
 {
+    if n < 10 {
+        spell(&mut *out, at, 1, 10, n);
+        return 1;
+    }
     let k = places_of(n);
     spell(&mut *out, at, k, 10, n);
     k

@@ -74,19 +74,22 @@ fn sum_up(length: usize, lines: Tally, first: Option<First>) -> Summary
 }
 
 // The line of a verdict under its number, laid where it fits.
+#[inline(always)]
 #[tactic(auto, using(lines::proofs::Lines::line_most))]
 fn lay_line(out: &mut [u8], l: Laying, number: u32, v: Verdict) -> Laying
     requires { l.at + most_line < 18446744073709551616 }
     ensures { (result ≡ line_laid l number v) × (out.new ≡ laid out.old l.at (line_of number v)) }
 {
+    let first = first_after(l.first, number, v);
     let length = lines::put_line(&mut *out, l.at, u64::from(number), v);
     Laying {
         at: l.at + length,
-        first: first_after(l.first, number, v),
+        first,
     }
 }
 
 // Lays the end line, where so many lines were accepted and refused; answers what all of the text tells.
+#[inline(always)]
 #[tactic(auto, using(lines::proofs::Lines::end_most, crate::proofs::Buffer::last_end))]
 fn lay_end(out: &mut [u8], l: Laying, lines: Tally) -> Summary
     requires { l.at + most_line < 18446744073709551616 }
