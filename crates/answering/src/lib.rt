@@ -15,11 +15,11 @@ use std::io::Input;
 use std::rt::{Env, Files};
 use whole_text::TEXT_ROOM;
 
-// The room for a trace and for its text.
+// The room for a trace and for its text, lent.
 #[derive(Drop)]
-pub struct Room {
-    pub trace: [u8; TRACE_ROOM],
-    pub text: [u8; TEXT_ROOM],
+pub struct Room<'a> {
+    pub trace: &'a mut [u8; TRACE_ROOM],
+    pub text: &'a mut [u8; TEXT_ROOM],
 }
 
 // The text of what was read, laid in the room that it is lent.
@@ -31,7 +31,7 @@ fn text_of<'a>(read: &Read, text: &'a mut [u8; TEXT_ROOM]) -> &'a [u8]
 }
 
 // Answers the trace on standard input.
-fn from_input<R: Input + Print + Eprint>(rt: &R, room: &mut Room) -> Written
+fn from_input<R: Input + Print + Eprint>(rt: &R, room: Room) -> Written
     ensures { result ≡ input_answered result.all }
 {
     let Room { trace, text } = room;
@@ -46,7 +46,7 @@ fn argument<R: Env + Files + Print + Eprint>(
     rt: &R,
     before: Written,
     i: usize,
-    room: &mut Room,
+    room: Room,
 ) -> Written
     requires { i ≡ before.files + 1 }
     ensures { result ≡ plus_file before result.all }
@@ -60,12 +60,17 @@ fn argument<R: Env + Files + Print + Eprint>(
 }
 
 // Answers the trace files that the arguments name, one after the other, up to the first whose answer can't be written.
-fn arguments<R: Env + Files + Print + Eprint>(rt: &R, count: usize, room: &mut Room) -> Written
+fn arguments<R: Env + Files + Print + Eprint>(rt: &R, count: usize, room: Room) -> Written
     ensures { FilesAnswered count result }
 {
+    let Room { trace, text } = room;
     let mut written = Written::none();
     for i in 1..count {
-        written = argument(rt, written, i, &mut *room);
+        let lent = Room {
+            trace: &mut *trace,
+            text: &mut *text,
+        };
+        written = argument(rt, written, i, lent);
         if !written.all() {
             return written;
         }
@@ -74,11 +79,7 @@ fn arguments<R: Env + Files + Print + Eprint>(rt: &R, count: usize, room: &mut R
 }
 
 // Answers every trace, in the room that it is lent.
-pub fn every<R: Env + Files + Input + Print + Eprint>(
-    rt: &R,
-    count: usize,
-    room: &mut Room,
-) -> Written
+pub fn every<R: Env + Files + Input + Print + Eprint>(rt: &R, count: usize, room: Room) -> Written
     ensures { Answered count result }
 {
     if count < 2 {

@@ -15,9 +15,11 @@ fn argument_count(rt: &impl Env) -> usize {
 
 // Makes the room and has every trace answered. Where the output can't be written, that was said, and the rest is left.
 fn main(rt: HostRuntime) {
-    let mut room = Room {
-        trace: [0; TRACE_ROOM],
-        text: [0; TEXT_ROOM],
+    let mut trace = [0; TRACE_ROOM];
+    let mut text = [0; TEXT_ROOM];
+    let room = Room {
+        trace: &mut trace,
+        text: &mut text,
     };
-    answering::every(&rt, argument_count(&rt), &mut room);
+    answering::every(&rt, argument_count(&rt), room);
 }

@@ -3,6 +3,7 @@
 use Rattle.std.specs.Prelude.{◌≡◌, ◌⊎◌, List, [], ◌++◌, IsUtf8, Bool, true, false, ◌≤◌, ℕ, length, Result, Ok, Err}
 use Rattle.std.specs.IoError.{error_kind}
 use Rattle.std.specs.declared.io.Error.{Error}
+use Rattle.std.specs.declared.io.ErrorKind.{ErrorKind}
 use Rattle.trace_text.specs.Text.{text_of}
 use Rattle.reading.specs.declared.Read.{Read}
 use Rattle.reading.specs.declared.Failure.{Failure}
@@ -19,13 +20,18 @@ Settled s = (more : List ℕ) → text_of (s ++ more) ≡ text_of s
 
 -- a trace can't be read since a call failed
 abbrev pub called : Cause → Bool
-called (Name kind) = false
+called (Name reason) = false
 called (Call reason) = true
 
 -- the error that tells of it
-abbrev pub Tells : Cause → Error → Type 0
-Tells (Name kind) reason = error_kind reason ≡ kind
-Tells (Call reason) told = told ≡ reason
+abbrev pub reason_of : Cause → Error
+reason_of (Name reason) = reason
+reason_of (Call reason) = reason
+
+-- a trace can't be read for its name, with an error of this kind
+abbrev pub NameOfKind : ErrorKind → Cause → Type 0
+NameOfKind kind (Name reason) = error_kind reason ≡ kind
+NameOfKind kind (Call reason) = ⊥
 
 -- a name that no file is opened by: none, one that fills so many bytes of room, or no text
 abbrev pub Unnamed : List ℕ → ℕ → Type 0

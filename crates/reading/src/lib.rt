@@ -3,7 +3,7 @@
 
 ghost use Rattle.std.specs.Prelude.{◌≡◌, ◌≤◌, false, true, length, IfErr};
 ghost use Rattle.std.specs.Io.{ReadsAtMost};
-ghost use Rattle.reading.specs.Reading.{Fills, Tells, Unnamed, name_of, called};
+ghost use Rattle.reading.specs.Reading.{Fills, NameOfKind, Unnamed, name_of, called, reason_of};
 
 use std::env::FillError;
 use std::io::{Error, ErrorKind, Input};
@@ -13,48 +13,48 @@ use trace_look::MOST_BYTES;
 // One byte past the longest trace, so that a longer one is seen to be too long.
 pub const TRACE_ROOM: usize = MOST_BYTES + 1;
 
-// What was read: the number of the argument that names the file, 0 for standard input; its path; and the bytes of the trace, lent from the buffer that they were read into.
+// What was read: the number of the argument that names the file, 0 for standard input; its path, lent from the buffer of the name; and the bytes of the trace, lent from the buffer that they were read into.
 #[derive(Clone, Copy)]
-pub struct Read<'a> {
+pub struct Read<'n, 'b> {
     number: usize,
-    path: &'a [u8],
-    bytes: &'a [u8],
+    path: &'n [u8],
+    bytes: &'b [u8],
 }
 
 // Why a trace can't be read: the argument names no file, or a call failed.
 #[derive(Clone, Copy)]
 pub enum Cause {
-    Name(ErrorKind),
+    Name(Error),
     Call(Error),
 }
 
 // What could not be read: the number as above; the name that the argument gives, as much of it as its buffer holds; and why.
 #[derive(Clone, Copy)]
-pub struct Failure<'a> {
+pub struct Failure<'n> {
     number: usize,
-    name: &'a [u8],
+    name: &'n [u8],
     cause: Cause,
 }
 
-impl<'a> Read<'a> {
+impl<'n, 'b> Read<'n, 'b> {
     // The bytes of the trace.
-    pub fn bytes(&self) -> &'a [u8]
+    pub fn bytes(&self) -> &'b [u8]
         ensures { result.now ≡ self.now.bytes.now }
     {
         self.bytes
     }
 
     // The path of the trace file.
-    pub fn path(&self) -> &'a [u8]
+    pub fn path(&self) -> &'n [u8]
         ensures { result.now ≡ self.now.path.now }
     {
         self.path
     }
 }
 
-impl<'a> Failure<'a> {
+impl<'n> Failure<'n> {
     // The name of what could not be read.
-    pub fn name(&self) -> &'a [u8]
+    pub fn name(&self) -> &'n [u8]
         ensures { result.now ≡ self.now.name.now }
     {
         self.name
@@ -62,10 +62,10 @@ impl<'a> Failure<'a> {
 
     // Why it could not be read.
     pub fn reason(&self) -> Error
-        ensures { Tells self.now.cause result }
+        ensures { result ≡ reason_of self.now.cause }
     {
         match self.cause {
-            Cause::Name(kind) => Error::from(kind),
+            Cause::Name(reason) => reason,
             Cause::Call(reason) => reason,
         }
     }
@@ -88,12 +88,12 @@ fn read_whole<R: std::io::Read>(from: &mut R, buf: &mut [u8; TRACE_ROOM]) -> Res
 }
 
 // Reads the trace that a number and a path tell of. In a full buffer the trace is too long, whatever follows in the input.
-fn fill<'a, R: std::io::Read>(
+fn fill<'n, 'b, R: std::io::Read>(
     number: usize,
-    path: &'a [u8],
+    path: &'n [u8],
     from: &mut R,
-    buf: &'a mut [u8; TRACE_ROOM],
-) -> Result<Read<'a>, Failure<'a>>
+    buf: &'b mut [u8; TRACE_ROOM],
+) -> Result<Read<'n, 'b>, Failure<'n>>
     ensures name { name_of result ≡ path.now }
     ensures cause { IfErr result (λ failure. called failure.cause ≡ true) }
     ensures fills { Fills number (length buf.old) result }
@@ -112,11 +112,11 @@ fn fill<'a, R: std::io::Read>(
     }
 }
 
-// Reads the trace on standard input.
-pub fn standard<'a, R: Input>(
+// Reads the trace on standard input. A failure lends nothing.
+pub fn standard<'b, R: Input>(
     rt: &R,
-    buf: &'a mut [u8; TRACE_ROOM],
-) -> Result<Read<'a>, Failure<'a>>
+    buf: &'b mut [u8; TRACE_ROOM],
+) -> Result<Read<'static, 'b>, Failure<'static>>
     ensures cause { IfErr result (λ failure. called failure.cause ≡ true) }
     ensures fills { Fills 0 (length buf.old) result }
 {
@@ -127,22 +127,22 @@ pub fn standard<'a, R: Input>(
 fn unnamed(number: usize, name: &[u8], kind: ErrorKind) -> Failure<'_>
     ensures asked { result.number ≡ number }
     ensures name { result.name.now ≡ name.now }
-    ensures cause { result.cause ≡ Cause.Name kind }
+    ensures cause { NameOfKind kind result.cause }
 {
     Failure {
         number,
         name,
-        cause: Cause::Name(kind),
+        cause: Cause::Name(Error::from(kind)),
     }
 }
 
-// Reads the trace file that an argument names, and puts its path at the start of the other buffer. Of an argument that the buffer can't hold it puts the start there and opens no file; nor is one opened whose name is no text, since the library takes paths as text.
-pub fn argument<'a, R: Env + Files>(
+// Reads the trace file that an argument names, and puts its path at the start of the other buffer. Of an argument that the buffer can't hold it puts the start there and opens no file; nor is one opened whose name is no text, since the library takes paths as text. A failure lends the name alone.
+pub fn argument<'n, 'b, R: Env + Files>(
     rt: &R,
     number: usize,
-    name: &'a mut [u8],
-    buf: &'a mut [u8; TRACE_ROOM],
-) -> Result<Read<'a>, Failure<'a>>
+    name: &'n mut [u8],
+    buf: &'b mut [u8; TRACE_ROOM],
+) -> Result<Read<'n, 'b>, Failure<'n>>
     ensures prefix_len { length (name_of result) ≤ length name.old }
     ensures cause { IfErr result (λ failure. called failure.cause ≡ false → Unnamed failure.name.now (length name.old)) }
     ensures fills { Fills number (length buf.old) result }
